@@ -1,0 +1,4 @@
+pub mod Logic
+pub mod Halves
+pub mod Widths
+pub mod Placed

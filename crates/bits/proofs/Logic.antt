@@ -1,0 +1,80 @@
+-- Laws of tests: two that hold together, one at every number below a bound, two that agree on every byte. Assumes nothing.
+use mathlib.Core.Path.{_≡_, refl, sym, ap, _∙_}
+use mathlib.Core.Bool.{Bool, true, false, not, _&&_, _||_}
+use mathlib.Core.Logic.{⊎-elim}
+use Prim.Native.Nat.{ℕ, zero, suc, _+_, _<_, _≤_}
+use native.Mathlib.Nat.{not-suc-le-zero, le-of-suc-le-suc, eq-or-lt-of-le}
+use native.Mathlib.Numerals.{add-one}
+use native.Mathlib.Omega.{arith}
+use mir.Val.{Fits}
+use mir.Syntax.{w8}
+use Rattle.bits.specs.Choice.{pick, allBelow, firstBelow, sumBelow}
+
+pub never : {A : Type 0} → true ≡ false → A
+never e = let z : _≡_ {A = ℕ} 0 1 = cc in absurd (omega arith)
+
+pub and-left : (a b : Bool) → a && b ≡ true → a ≡ true
+and-left true b t = refl
+and-left false b t = t
+
+pub and-right : (a b : Bool) → a && b ≡ true → b ≡ true
+and-right true b t = t
+and-right false b t = never (sym t)
+
+pub and-both : {a b : Bool} → a ≡ true → b ≡ true → a && b ≡ true
+and-both p q = rw (p, q)
+
+and-false : (a : Bool) → a && false ≡ false
+and-false true = refl
+and-false false = refl
+
+-- what a test says at each number below n, once it has passed
+pub below-at : (f : ℕ → Bool) (n : ℕ) → allBelow f n ≡ true → (k : ℕ) → k < n → f k ≡ true
+below-at f zero t k h = absurd (not-suc-le-zero h)
+below-at f (suc n) t k h =
+    ⊎-elim (λ e. ap f e ∙ and-right (allBelow f n) (f n) t)
+    (λ l. below-at f n (and-left (allBelow f n) (f n) t) k l)
+    (eq-or-lt-of-le (le-of-suc-le-suc h))
+
+-- a test that fails at one number below n fails
+pub below-fails : (f : ℕ → Bool) (n k : ℕ) → k < n → f k ≡ false → allBelow f n ≡ false
+below-fails f zero k h e = absurd (not-suc-le-zero h)
+below-fails f (suc n) k h e =
+    ⊎-elim (λ q. ap (λ b. allBelow f n && b) (ap f (sym q) ∙ e) ∙ and-false (allBelow f n))
+    (λ l. ap (λ b. b && f n) (below-fails f n k l e))
+    (eq-or-lt-of-le (le-of-suc-le-suc h))
+
+-- one more number passes
+pub below-next : (f : ℕ → Bool) (n : ℕ) → allBelow f n ≡ true → f n ≡ true → allBelow f (n + 1) ≡ true
+below-next f n t e = rw (add-one, t, e)
+
+-- a test that passes at every number below n passes
+pub below-all : (f : ℕ → Bool) (n : ℕ) → ((k : ℕ) → k < n → f k ≡ true) → allBelow f n ≡ true
+below-all f zero h = refl
+below-all f (suc n) h = and-both (below-all f n (λ k l. h k (omega arith))) (h n (omega arith))
+
+abbrev pub same : Bool → Bool → Bool
+same true b = b
+same false b = not b
+
+pub same-eq : (a b : Bool) → same a b ≡ true → a ≡ b
+same-eq true true t = refl
+same-eq true false t = sym t
+same-eq false true t = t
+same-eq false false t = refl
+
+abbrev pub implies : Bool → Bool → Bool
+implies true b = b
+implies false b = true
+
+pub implied : (a b : Bool) → implies a b ≡ true → a ≡ true → b ≡ true
+implied true b t e = t
+implied false b t e = never (sym e)
+
+-- two tests that agree at each of the 256 bytes, which antt computes, are one test
+pub byByte : (f g : ℕ → Bool) → allBelow (λ b. same (f b) (g b)) 256 ≡ true → (b : ℕ) → Fits w8 b → f b ≡ g b
+byByte f g t b h = same-eq (f b) (g b) (below-at (λ b. same (f b) (g b)) 256 t b (h .fits))
+
+-- what one test of a byte implies of another, at each of the 256
+pub byByteIf : (f g : ℕ → Bool) → allBelow (λ b. implies (f b) (g b)) 256 ≡ true → (b : ℕ) → b < 256 → f b ≡ true → g b ≡ true
+byByteIf f g t b h = implied (f b) (g b) (below-at (λ b. implies (f b) (g b)) 256 t b h)

@@ -1,0 +1,4 @@
+pub mod Choice
+pub mod Bits
+pub mod Numbers
+pub mod Places

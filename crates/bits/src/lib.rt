@@ -1,0 +1,69 @@
+// Bytes: the bits of one, the two halves of one, big-endian numbers, and lent bytes at any place.
+//
+// Nothing here asks anything of its caller: a byte past the end of a slice reads as 0, and bytes that
+// would not fit are not written.
+ghost use mathlib.Core.Path.{_≡_};
+ghost use Prim.Native.Nat.{_+_, _*_, _%_};
+ghost use lib.ListN.{getD};
+ghost use Rattle.bits.specs.Bits.{nibble, join};
+ghost use Rattle.bits.specs.Places.{fourAt, putFour, twoAt};
+ghost use Rattle.bits.specs.Numbers.{big};
+
+// Four flags as half a byte, the first the highest.
+pub fn nibble(a: bool, b: bool, c: bool, d: bool) -> u8
+    ensures { λ r. ⌜ r ≡ nibble a b c d ⌝ }
+{
+    (a as u8) << 3 | (b as u8) << 2 | (c as u8) << 1 | d as u8
+}
+
+// A byte of its two halves; what stands above their four bits is left out.
+pub fn join(high: u8, low: u8) -> u8
+    ensures { λ r. ⌜ r ≡ join high low ⌝ }
+{
+    (high & 15) << 4 | low & 15
+}
+
+pub fn byte_at(s: &[u8], at: usize) -> u8
+    ensures { λ r. ⌜ r ≡ getD (now (s .entry)) at 0 ⌝ }
+{
+    if at < s.len() { s[at] } else { 0 }
+}
+
+pub fn four_at(s: &[u8], at: u32) -> [u8; 4]
+    ensures { λ r. ⌜ r ≡ fourAt (now (s .entry)) at ⌝ }
+{
+    let k = at as usize;
+    [
+        byte_at(s, k),
+        byte_at(s, k + 1),
+        byte_at(s, k + 2),
+        byte_at(s, k + 3),
+    ]
+}
+
+pub fn put_four(s: &mut [u8], at: u32, f: [u8; 4])
+    ensures { λ _. ⌜ now (s .exit) ≡ putFour (now (s .entry)) at f ⌝ }
+{
+    let k = at as usize;
+    if k + 4 <= s.len() {
+        s[k] = f[0];
+        s[k + 1] = f[1];
+        s[k + 2] = f[2];
+        s[k + 3] = f[3];
+    }
+}
+
+pub fn big16_at(s: &[u8], at: u32) -> u16
+    ensures { λ r. ⌜ r ≡ big (twoAt (now (s .entry)) at) ⌝ }
+{
+    let k = at as usize;
+    (byte_at(s, k) as u16) * 256 + byte_at(s, k + 1) as u16
+}
+
+pub fn big32_at(s: &[u8], at: u32) -> u32
+    ensures { λ r. ⌜ r ≡ big (fourAt (now (s .entry)) at) ⌝ }
+{
+    let high = big16_at(s, at) as u32;
+    let k = at as usize;
+    high * 65536 + (byte_at(s, k + 2) as u32) * 256 + byte_at(s, k + 3) as u32
+}

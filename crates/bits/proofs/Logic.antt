@@ -13,6 +13,14 @@ use Rattle.bits.specs.Choice.{pick, allBelow, firstBelow, sumBelow}
 pub never : {A : Type 0} → true ≡ false → A
 never e = let z : _≡_ {A = ℕ} 0 1 = cc in absurd (omega arith)
 
+pub pick-yes : {A : Type 0} (t : Bool) (a b : A) → t ≡ true → pick t a b ≡ a
+pick-yes true a b e = refl
+pick-yes false a b e = never (sym e)
+
+pub pick-no : {A : Type 0} (t : Bool) (a b : A) → t ≡ false → pick t a b ≡ b
+pick-no true a b e = never e
+pick-no false a b e = refl
+
 pub and-left : (a b : Bool) → a && b ≡ true → a ≡ true
 and-left true b t = refl
 and-left false b t = t

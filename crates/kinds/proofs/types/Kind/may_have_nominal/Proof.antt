@@ -1,0 +1,20 @@
+-- `kinds::types::Kind::may_have_nominal` meets its contract. Assumes nothing.
+use mathlib.Core.Path.{_≡_, refl, sym, ap, _∙_}
+use mathlib.Core.Bool.{Bool, true, false, not, _&&_}
+use mathlib.Core.List.{List, [], _∷_}
+use lib.Dec.{eqb, leb, ltb}
+use Rattle.kinds.proofs.Arms.{arms}
+use Rattle.kinds.specs.Types.{nominalAllowed}
+use Rattle.kinds.proofs.types.Kind.may_have_nominal.Statement.{statement}
+use Rattle.kinds.proofs.types.Kind.may_have_nominal.Tie as tie
+
+returns : tie.Need-returns
+unfolding nominalAllowed
+returns c = arms (0 ∷ 1 ∷ []) (λ k. eqb (c .before .args .nominal) 0 ≡ nominalAllowed k (c .before .args .nominal)) refl refl tt tt (c .before .args .self) (c .match .keys1)
+
+returns-2 : tie.Need-returns-2
+unfolding nominalAllowed
+returns-2 c = arms (2 ∷ 3 ∷ []) (λ k. leb 1 (c .before .args .nominal) && leb (c .before .args .nominal) 32767 ≡ nominalAllowed k (c .before .args .nominal)) tt tt refl refl (c .before .args .self) (c .match .keys2)
+
+pub may-have-nominal-spec : {M : Type 1} → statement M
+may-have-nominal-spec = tie.close (tie.spec returns returns-2)

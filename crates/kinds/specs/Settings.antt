@@ -1,0 +1,88 @@
+-- Settings: the record, and the four bytes that store it. They stand as the type's control element has them, with SELECT zero and
+-- SWAP in the place of RST SWAP, so that one layout serves settings, control elements and status elements. Assumes nothing.
+use mathlib.Core.Bool.{Bool, true, false, not, _&&_}
+use mathlib.Core.List.{List, [], _∷_}
+use Prim.Native.Nat.{ℕ, _%_}
+use lib.Dec.{eqb}
+use lib.ListN.{getD}
+use Rattle.bits.specs.Bits.{bit, only, nibble, join}
+use Rattle.kinds.specs.declared.types.Kind.{Kind}
+use Rattle.kinds.specs.declared.types.Kind.the-variants.{Cooling, Temperature, Voltage, Current}
+use Rattle.kinds.specs.declared.settings.Settings.{Settings}
+
+-- byte 0: bit 6 PRDFAIL, 5 DISABLED, 4 SWAP; byte 1: bit 7 IDENT; byte 3: bit 6 FAIL, bit 5 ON, bits 2 to 0 SPEED
+abbrev pub fanSettings : List ℕ → Settings
+fanSettings e = record {
+  prdfail = bit 6 (getD e 0 0);
+  disabled = bit 5 (getD e 0 0);
+  swap = bit 4 (getD e 0 0);
+  ident = bit 7 (getD e 1 0);
+  fail = bit 6 (getD e 3 0);
+  on = bit 5 (getD e 3 0);
+  speed = getD e 3 0 % 8;
+}
+
+-- byte 0: bit 6 PRDFAIL, 5 DISABLED, 4 SWAP; byte 1: bit 7 IDENT, bit 6 FAIL
+abbrev pub sensorSettings : List ℕ → Settings
+sensorSettings e = record {
+  prdfail = bit 6 (getD e 0 0);
+  disabled = bit 5 (getD e 0 0);
+  swap = bit 4 (getD e 0 0);
+  ident = bit 7 (getD e 1 0);
+  fail = bit 6 (getD e 1 0);
+  on = false;
+  speed = 0;
+}
+
+unfoldable pub settingsOf : Kind → List ℕ → Settings
+settingsOf Cooling e = fanSettings e
+settingsOf Temperature e = sensorSettings e
+settingsOf Voltage e = sensorSettings e
+settingsOf Current e = sensorSettings e
+
+-- the same the other way round
+abbrev pub fanBytes : Settings → List ℕ
+fanBytes s =
+    join (nibble false (s .prdfail) (s .disabled) (s .swap)) 0
+    ∷ join (nibble (s .ident) false false false) 0
+    ∷ 0
+    ∷ join (nibble false (s .fail) (s .on) false) (s .speed % 8)
+    ∷ []
+
+abbrev pub sensorBytes : Settings → List ℕ
+sensorBytes s =
+    join (nibble false (s .prdfail) (s .disabled) (s .swap)) 0
+    ∷ join (nibble (s .ident) (s .fail) false false) 0
+    ∷ 0
+    ∷ 0
+    ∷ []
+
+unfoldable pub settingsBytes : Kind → Settings → List ℕ
+settingsBytes Cooling s = fanBytes s
+settingsBytes Temperature s = sensorBytes s
+settingsBytes Voltage s = sensorBytes s
+settingsBytes Current s = sensorBytes s
+
+-- bytes 1 to 3 have no bit set but those that the type's control element names
+abbrev pub fanClear : List ℕ → Bool
+fanClear e = (only (7 ∷ []) (getD e 1 0) && eqb (getD e 2 0) 0) && only (6 ∷ 5 ∷ 2 ∷ 1 ∷ 0 ∷ []) (getD e 3 0)
+
+abbrev pub sensorClear : List ℕ → Bool
+sensorClear e = (only (7 ∷ 6 ∷ []) (getD e 1 0) && eqb (getD e 2 0) 0) && eqb (getD e 3 0) 0
+
+unfoldable pub requestsClear : Kind → List ℕ → Bool
+requestsClear Cooling e = fanClear e
+requestsClear Temperature e = sensorClear e
+requestsClear Voltage e = sensorClear e
+requestsClear Current e = sensorClear e
+
+-- a fan's SPEED is 1 to 7
+unfoldable pub speedFormed : Kind → List ℕ → Bool
+speedFormed Cooling e = not (eqb (getD e 3 0 % 8) 0)
+speedFormed Temperature e = true
+speedFormed Voltage e = true
+speedFormed Current e = true
+
+-- the four bytes are settings that the type may have
+unfoldable pub settingsFormed : Kind → List ℕ → Bool
+settingsFormed k e = (only (6 ∷ 5 ∷ 4 ∷ []) (getD e 0 0) && requestsClear k e) && speedFormed k e

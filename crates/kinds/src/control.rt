@@ -1,0 +1,93 @@
+// A control element: what it asks, which of two acts, and what it makes of settings.
+use crate::settings;
+use crate::settings::Settings;
+use crate::types::Kind;
+ghost use mathlib.Core.Path.{_≡_};
+ghost use Rattle.kinds.specs.Control.{controlOf, reservedClear, chosen, speedAfter, acted};
+
+pub struct Control {
+    pub select: bool,
+    pub prdfail: bool,
+    pub disable: bool,
+    pub rstswap: bool,
+    pub ident: bool,
+    pub fail: bool,
+    pub on: bool,
+    pub speed: u8,
+}
+
+impl Control {
+    // The element of four zeros; an element without SELECT asks no more, whatever its other bits.
+    pub const UNSELECTED: Control = Control {
+        select: false,
+        prdfail: false,
+        disable: false,
+        rstswap: false,
+        ident: false,
+        fail: false,
+        on: false,
+        speed: 0,
+    };
+
+    pub fn of(kind: Kind, e: [u8; 4]) -> Control
+        ensures { λ r. ⌜ r ≡ controlOf kind e ⌝ }
+    {
+        if e[0] >> 7 & 1 == 1 {
+            let s = Settings::of(kind, e);
+            Control {
+                select: true,
+                prdfail: s.prdfail,
+                disable: s.disabled,
+                rstswap: s.swap,
+                ident: s.ident,
+                fail: s.fail,
+                on: s.on,
+                speed: s.speed,
+            }
+        } else {
+            Control::UNSELECTED
+        }
+    }
+
+    // Reserved bits count in a selected element only.
+    pub fn reserved_clear(kind: Kind, e: [u8; 4]) -> bool
+        ensures { λ r. ⌜ r ≡ reservedClear kind e ⌝ }
+    {
+        if e[0] >> 7 & 1 == 1 {
+            (e[0] & 0x0f == 0) & settings::requests_clear(kind, e)
+        } else {
+            true
+        }
+    }
+
+    pub fn chosen(overall: Control, own: Control) -> Control
+        ensures { λ r. ⌜ r ≡ chosen overall own ⌝ }
+    {
+        if own.select { own } else { overall }
+    }
+
+    pub fn act(self, s: Settings) -> Settings
+        ensures { λ r. ⌜ r ≡ acted self s ⌝ }
+    {
+        if self.select {
+            let speed = speed_after(self.speed, s.speed);
+            Settings {
+                prdfail: self.prdfail,
+                disabled: self.disable,
+                swap: s.swap & !self.rstswap,
+                ident: self.ident,
+                fail: self.fail,
+                on: self.on,
+                speed,
+            }
+        } else {
+            s
+        }
+    }
+}
+
+fn speed_after(code: u8, stored: u8) -> u8
+    ensures { λ r. ⌜ r ≡ speedAfter code stored ⌝ }
+{
+    if code == 0 { stored } else { code }
+}

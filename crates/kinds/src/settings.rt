@@ -1,0 +1,112 @@
+// What an element is set to, as a record and as the four bytes that the shelf stores.
+use crate::types::Kind;
+ghost use mathlib.Core.Path.{_≡_};
+ghost use Rattle.kinds.specs.Settings.{fanSettings, sensorSettings, settingsOf, fanBytes, sensorBytes, settingsBytes, requestsClear, speedFormed, settingsFormed};
+
+pub struct Settings {
+    pub prdfail: bool,
+    pub disabled: bool,
+    pub swap: bool,
+    pub ident: bool,
+    pub fail: bool,
+    pub on: bool,
+    pub speed: u8,
+}
+
+impl Settings {
+    pub fn of(kind: Kind, e: [u8; 4]) -> Settings
+        ensures { λ r. ⌜ r ≡ settingsOf kind e ⌝ }
+    {
+        match kind {
+            Kind::Cooling => of_fan(e),
+            Kind::Temperature | Kind::Voltage | Kind::Current => of_sensor(e),
+        }
+    }
+
+    pub fn bytes(self, kind: Kind) -> [u8; 4]
+        ensures { λ r. ⌜ r ≡ settingsBytes kind self ⌝ }
+    {
+        match kind {
+            Kind::Cooling => fan_bytes(self),
+            Kind::Temperature | Kind::Voltage | Kind::Current => sensor_bytes(self),
+        }
+    }
+}
+
+fn of_fan(e: [u8; 4]) -> Settings
+    ensures { λ r. ⌜ r ≡ fanSettings e ⌝ }
+{
+    Settings {
+        prdfail: e[0] >> 6 & 1 == 1,
+        disabled: e[0] >> 5 & 1 == 1,
+        swap: e[0] >> 4 & 1 == 1,
+        ident: e[1] >> 7 & 1 == 1,
+        fail: e[3] >> 6 & 1 == 1,
+        on: e[3] >> 5 & 1 == 1,
+        speed: e[3] & 7,
+    }
+}
+
+fn of_sensor(e: [u8; 4]) -> Settings
+    ensures { λ r. ⌜ r ≡ sensorSettings e ⌝ }
+{
+    Settings {
+        prdfail: e[0] >> 6 & 1 == 1,
+        disabled: e[0] >> 5 & 1 == 1,
+        swap: e[0] >> 4 & 1 == 1,
+        ident: e[1] >> 7 & 1 == 1,
+        fail: e[1] >> 6 & 1 == 1,
+        on: false,
+        speed: 0,
+    }
+}
+
+fn fan_bytes(s: Settings) -> [u8; 4]
+    ensures { λ r. ⌜ r ≡ fanBytes s ⌝ }
+{
+    [
+        bits::join(bits::nibble(false, s.prdfail, s.disabled, s.swap), 0),
+        bits::join(bits::nibble(s.ident, false, false, false), 0),
+        0,
+        bits::join(bits::nibble(false, s.fail, s.on, false), s.speed & 7),
+    ]
+}
+
+fn sensor_bytes(s: Settings) -> [u8; 4]
+    ensures { λ r. ⌜ r ≡ sensorBytes s ⌝ }
+{
+    [
+        bits::join(bits::nibble(false, s.prdfail, s.disabled, s.swap), 0),
+        bits::join(bits::nibble(s.ident, s.fail, false, false), 0),
+        0,
+        0,
+    ]
+}
+
+// Bytes 1 to 3 have no bit set that the type's control element does not name.
+pub fn requests_clear(kind: Kind, e: [u8; 4]) -> bool
+    ensures { λ r. ⌜ r ≡ requestsClear kind e ⌝ }
+{
+    match kind {
+        Kind::Cooling => (e[1] & 0x7f == 0) & (e[2] == 0) & (e[3] & 0x98 == 0),
+        Kind::Temperature | Kind::Voltage | Kind::Current => {
+            (e[1] & 0x3f == 0) & (e[2] == 0) & (e[3] == 0)
+        }
+    }
+}
+
+fn speed_formed(kind: Kind, e: [u8; 4]) -> bool
+    ensures { λ r. ⌜ r ≡ speedFormed kind e ⌝ }
+{
+    match kind {
+        Kind::Cooling => e[3] & 7 != 0,
+        Kind::Temperature | Kind::Voltage | Kind::Current => true,
+    }
+}
+
+// The four bytes are settings that the type may have.
+pub fn are_formed(kind: Kind, e: [u8; 4]) -> bool
+    ensures { λ r. ⌜ r ≡ settingsFormed kind e ⌝ }
+{
+    (e[0] & 0x8f == 0) & requests_clear(kind, e) & speed_formed(kind, e)
+}

@@ -1,0 +1,633 @@
+//! Shelf blocks to compare: well-formed ones of every shape, and damaged ones.
+
+use crate::record::{
+    Element, FanSettings, Group, Identification, Kind, Settings, Shelf, Thresholds,
+};
+use crate::rng::Rng;
+use std::array::from_fn;
+
+/// What the maker of a block knows about it beforehand.
+#[derive(Clone, Copy, Debug, PartialEq, Eq)]
+pub enum Intent {
+    WellFormed,
+    Malformed,
+    Open,
+}
+
+pub type Offer<'a> = &'a mut dyn FnMut(&[u8], Intent);
+
+const TYPES_AT: usize = 40;
+const SLOTS_AT: usize = 44;
+const SLOT_BYTES: usize = 36;
+const ELEMENTS_AT: usize = 332;
+const ELEMENT_BYTES: usize = 16;
+const LONGEST_PAGE: usize = 65_539;
+
+pub fn offer_all(rng: &mut Rng, offer: Offer) {
+    well_formed_shelves(rng, offer);
+    byte_changes(rng, offer);
+    element_words(rng, offer);
+    wrong_lengths(rng, offer);
+    plain_fills(rng, offer);
+    wrong_totals(rng, offer);
+    element_flaws(rng, offer);
+    block_flaws(rng, offer);
+    open_changes(rng, offer);
+}
+
+fn well_formed_shelves(rng: &mut Rng, offer: Offer) {
+    for _ in 0..60_000 {
+        offer(&shelf(rng).block(), Intent::WellFormed);
+    }
+    for types in 1..=8 {
+        for elements in 0..=64 {
+            let groups = groups(rng, types, elements);
+            offer(&shelf_of(rng, groups).block(), Intent::WellFormed);
+        }
+    }
+    for kind in Kind::ALL {
+        for count in 0..=64 {
+            let groups = vec![group(rng, kind, count)];
+            offer(&shelf_of(rng, groups).block(), Intent::WellFormed);
+        }
+    }
+}
+
+/// Every byte takes every value, in three shelves.
+fn byte_changes(rng: &mut Rng, offer: Offer) {
+    let empty = vec![group(rng, Kind::Cooling, 0)];
+    let one_of_each = Kind::ALL.map(|kind| group(rng, kind, 1)).to_vec();
+    let two_of_each = [one_of_each.clone(), one_of_each.clone()].concat();
+    for groups in [empty, one_of_each, two_of_each] {
+        let mut block = shelf_of(rng, groups).block();
+        for at in 0..block.len() {
+            let kept = block[at];
+            let intent = if at < TYPES_AT {
+                Intent::WellFormed
+            } else {
+                Intent::Open
+            };
+            for value in 0..=255 {
+                block[at] = value;
+                offer(&block, intent);
+            }
+            block[at] = kept;
+        }
+    }
+}
+
+/// Each of the eight 16-bit words of an element takes every value, for each type. Two of them
+/// are the pairs of threshold bytes that have an order.
+fn element_words(rng: &mut Rng, offer: Offer) {
+    for kind in Kind::ALL {
+        let groups = vec![group(rng, kind, 1)];
+        let block = shelf_of(rng, groups).block();
+        for at in (ELEMENTS_AT..block.len()).step_by(2) {
+            let mut changed = block.clone();
+            for word in 0..=u16::MAX {
+                changed[at..at + 2].copy_from_slice(&word.to_be_bytes());
+                offer(&changed, Intent::Open);
+            }
+        }
+    }
+}
+
+fn wrong_lengths(rng: &mut Rng, offer: Offer) {
+    for _ in 0..60 {
+        let block = shelf(rng).block();
+        for length in 0..block.len() {
+            offer(&block[..length], Intent::Malformed);
+        }
+        for surplus in 1..=3 * ELEMENT_BYTES {
+            offer_extended(&block, surplus, rng, offer);
+        }
+        offer_extended(&block, LONGEST_PAGE - block.len(), rng, offer);
+        let last_again = &block[block.len() - ELEMENT_BYTES..];
+        offer(&[&block[..], last_again].concat(), Intent::Malformed);
+    }
+}
+
+fn offer_extended(block: &[u8], surplus: usize, rng: &mut Rng, offer: Offer) {
+    for fill in [0x00, 0xFF, rng.byte()] {
+        offer(&[block, &vec![fill; surplus]].concat(), Intent::Malformed);
+    }
+}
+
+fn plain_fills(rng: &mut Rng, offer: Offer) {
+    let short = 0..=1_400;
+    let at_element_ends = (ELEMENTS_AT..=33_000).step_by(ELEMENT_BYTES);
+    let longest = LONGEST_PAGE - 4..=LONGEST_PAGE;
+    for length in short.chain(at_element_ends).chain(longest) {
+        for fill in [0x00, 0xFF, 0x01, 0x20] {
+            offer(&vec![fill; length], Intent::Malformed);
+        }
+        let noise: Vec<u8> = (0..length).map(|_| rng.byte()).collect();
+        offer(&noise, Intent::Malformed);
+    }
+}
+
+/// No types, or too many elements; the latter also cut to the lengths that a wrapped or capped
+/// total would ask for.
+fn wrong_totals(rng: &mut Rng, offer: Offer) {
+    offer(&shelf_of(rng, Vec::new()).block(), Intent::Malformed);
+    for round in 0..2_000 {
+        let elements = match round % 4 {
+            0 => 65,
+            1 => rng.range(65, 80),
+            2 => rng.range(256, 320),
+            _ => rng.range(65, 1_000),
+        };
+        let types = rng.range(elements / 250 + 1, 8);
+        let groups = too_many(rng, types, elements);
+        let block = shelf_of(rng, groups).block();
+        offer(&block, Intent::Malformed);
+        for counted in [elements % 256, 64] {
+            let length = block.len().min(ELEMENTS_AT + ELEMENT_BYTES * counted);
+            offer(&block[..length], Intent::Malformed);
+        }
+    }
+}
+
+/// Changes one element so that it alone breaks one rule.
+type ElementFlaw = fn(&mut Element, &mut Rng);
+
+const ELEMENT_FLAWS: [(Kind, ElementFlaw); 14] = [
+    (Kind::Cooling, no_speed),
+    (Kind::Cooling, any_threshold),
+    (Kind::Cooling, reading_too_fast),
+    (Kind::Cooling, nominal_not_had),
+    (Kind::Temperature, reading_too_wide),
+    (Kind::Temperature, nominal_not_had),
+    (Kind::Temperature, high_order),
+    (Kind::Temperature, low_order),
+    (Kind::Voltage, nominal_out_of_range),
+    (Kind::Voltage, high_order),
+    (Kind::Voltage, low_order),
+    (Kind::Current, nominal_out_of_range),
+    (Kind::Current, high_order),
+    (Kind::Current, low_threshold),
+];
+
+fn element_flaws(rng: &mut Rng, offer: Offer) {
+    for (kind, flaw) in ELEMENT_FLAWS {
+        for _ in 0..2_000 {
+            let count = rng.range(1, 8);
+            let mut flawed = group(rng, kind, count);
+            let which = rng.range(0, count - 1);
+            flaw(&mut flawed.elements[which], rng);
+            let others = rng.range(0, 7);
+            let (groups, _) = surround(rng, flawed, others);
+            offer(&shelf_of(rng, groups).block(), Intent::Malformed);
+        }
+    }
+}
+
+fn no_speed(element: &mut Element, _: &mut Rng) {
+    if let Element::Cooling { settings, .. } = element {
+        settings.speed = 0;
+    }
+}
+
+fn reading_too_fast(element: &mut Element, rng: &mut Rng) {
+    if let Element::Cooling { reading, .. } = element {
+        *reading = near(rng, &[2_048, 2_049, 32_768, 65_535], 2_048, 65_535);
+    }
+}
+
+fn reading_too_wide(element: &mut Element, rng: &mut Rng) {
+    if let Element::Temperature { reading, .. } = element {
+        *reading = near(rng, &[256, 257, 511, 32_768, 65_535], 256, 65_535);
+    }
+}
+
+fn nominal_not_had(element: &mut Element, rng: &mut Rng) {
+    *nominal_of(element) = near(rng, &[1, 255, 256, 32_768, 65_535], 1, 65_535);
+}
+
+fn nominal_out_of_range(element: &mut Element, rng: &mut Rng) {
+    *nominal_of(element) = near(rng, &[0, 32_768, 32_769, 65_535], 32_768, 65_535);
+}
+
+fn any_threshold(element: &mut Element, rng: &mut Rng) {
+    if rng.one_in(2) {
+        low_threshold(element, rng);
+        return;
+    }
+    let thresholds = thresholds_of(element);
+    if rng.one_in(2) {
+        thresholds.high_critical = rng.nonzero_byte();
+    } else {
+        thresholds.high_warning = rng.nonzero_byte();
+    }
+}
+
+fn low_threshold(element: &mut Element, rng: &mut Rng) {
+    let thresholds = thresholds_of(element);
+    if rng.one_in(2) {
+        thresholds.low_warning = rng.nonzero_byte();
+    } else {
+        thresholds.low_critical = rng.nonzero_byte();
+    }
+}
+
+fn high_order(element: &mut Element, rng: &mut Rng) {
+    let thresholds = thresholds_of(element);
+    (thresholds.high_warning, thresholds.high_critical) = unequal_pair(rng);
+}
+
+fn low_order(element: &mut Element, rng: &mut Rng) {
+    let kind = element.kind();
+    let thresholds = thresholds_of(element);
+    let (greater, smaller) = unequal_pair(rng);
+    (thresholds.low_critical, thresholds.low_warning) = match kind {
+        Kind::Voltage => (smaller, greater),
+        _ => (greater, smaller),
+    };
+}
+
+fn thresholds_of(element: &mut Element) -> &mut Thresholds {
+    match element {
+        Element::Cooling { thresholds, .. }
+        | Element::Temperature { thresholds, .. }
+        | Element::Voltage { thresholds, .. }
+        | Element::Current { thresholds, .. } => thresholds,
+    }
+}
+
+fn nominal_of(element: &mut Element) -> &mut u16 {
+    match element {
+        Element::Cooling { nominal, .. }
+        | Element::Temperature { nominal, .. }
+        | Element::Voltage { nominal, .. }
+        | Element::Current { nominal, .. } => nominal,
+    }
+}
+
+/// A well-formed block with the places where one type's slot and one of its elements stand.
+struct Target {
+    block: Vec<u8>,
+    kind: Kind,
+    text_length: usize,
+    slot_at: usize,
+    unused_slots_at: usize,
+    element_at: usize,
+}
+
+type BlockFlaw = fn(&mut Target, &mut Rng);
+
+const BLOCK_FLAWS: [BlockFlaw; 11] = [
+    other_type_number,
+    padding_after_type_number,
+    unknown_type,
+    other_count,
+    other_text_length,
+    padding_in_slot,
+    letter_out_of_range,
+    padding_after_text,
+    unused_slot_in_use,
+    reserved_setting,
+    padding_after_element,
+];
+
+fn block_flaws(rng: &mut Rng, offer: Offer) {
+    for flaw in BLOCK_FLAWS {
+        for _ in 0..3_000 {
+            let mut target = target(rng);
+            flaw(&mut target, rng);
+            offer(&target.block, Intent::Malformed);
+        }
+    }
+}
+
+/// The type aimed at has a text that leaves room, and one slot at least is not in use.
+fn target(rng: &mut Rng) -> Target {
+    let kind = rng.pick(&Kind::ALL);
+    let count = rng.range(1, 8);
+    let mut aimed = group(rng, kind, count);
+    let text_length = rng.range(1, 31);
+    aimed.text = text(rng, text_length);
+    let others = rng.range(0, 6);
+    let (groups, place) = surround(rng, aimed, others);
+    let before: usize = groups[..place]
+        .iter()
+        .map(|group| group.elements.len())
+        .sum();
+    let element = before + rng.range(0, count - 1);
+    Target {
+        kind,
+        text_length,
+        slot_at: SLOTS_AT + SLOT_BYTES * place,
+        unused_slots_at: SLOTS_AT + SLOT_BYTES * groups.len(),
+        element_at: ELEMENTS_AT + ELEMENT_BYTES * element,
+        block: shelf_of(rng, groups).block(),
+    }
+}
+
+impl Target {
+    /// Adds a number other than 0, modulo 256.
+    fn alter(&mut self, at: usize, rng: &mut Rng) {
+        let step = match rng.range(0, 3) {
+            0 => 1,
+            1 => 255,
+            _ => rng.nonzero_byte(),
+        };
+        self.block[at] = self.block[at].wrapping_add(step);
+    }
+}
+
+fn other_type_number(target: &mut Target, rng: &mut Rng) {
+    target.alter(TYPES_AT, rng);
+}
+
+fn padding_after_type_number(target: &mut Target, rng: &mut Rng) {
+    target.alter(TYPES_AT + rng.range(1, 3), rng);
+}
+
+fn unknown_type(target: &mut Target, rng: &mut Rng) {
+    let known = Kind::ALL.map(Kind::code);
+    while known.contains(&target.block[target.slot_at]) {
+        target.block[target.slot_at] = rng.byte();
+    }
+}
+
+fn other_count(target: &mut Target, rng: &mut Rng) {
+    target.alter(target.slot_at + 1, rng);
+}
+
+fn other_text_length(target: &mut Target, rng: &mut Rng) {
+    target.alter(target.slot_at + 2, rng);
+}
+
+fn padding_in_slot(target: &mut Target, rng: &mut Rng) {
+    target.alter(target.slot_at + 3, rng);
+}
+
+fn letter_out_of_range(target: &mut Target, rng: &mut Rng) {
+    let at = target.slot_at + 4 + rng.range(0, target.text_length - 1);
+    let too_high = rng.range(0x7F, 0xFF) as u8;
+    let too_low = rng.range(0x00, 0x1F) as u8;
+    target.block[at] = rng.pick(&[0x00, 0x1F, 0x7F, 0x80, 0xFF, too_high, too_low]);
+}
+
+fn padding_after_text(target: &mut Target, rng: &mut Rng) {
+    target.alter(target.slot_at + 4 + rng.range(target.text_length, 31), rng);
+}
+
+fn unused_slot_in_use(target: &mut Target, rng: &mut Rng) {
+    target.alter(rng.range(target.unused_slots_at, ELEMENTS_AT - 1), rng);
+}
+
+fn reserved_setting(target: &mut Target, rng: &mut Rng) {
+    let named: [u8; 4] = match target.kind {
+        Kind::Cooling => [0x70, 0x80, 0x00, 0x67],
+        Kind::Temperature | Kind::Voltage | Kind::Current => [0x70, 0xC0, 0x00, 0x00],
+    };
+    loop {
+        let byte = rng.range(0, 3);
+        let bit = 1 << rng.range(0, 7);
+        if named[byte] & bit == 0 {
+            target.block[target.element_at + byte] |= bit;
+            return;
+        }
+    }
+}
+
+fn padding_after_element(target: &mut Target, rng: &mut Rng) {
+    target.alter(target.element_at + rng.range(12, 15), rng);
+}
+
+/// Changes that may leave a block well formed.
+fn open_changes(rng: &mut Rng, offer: Offer) {
+    for _ in 0..10_000 {
+        for change in [
+            other_known_type,
+            moved_count,
+            exchanged_slots,
+            sparse_element,
+        ] {
+            let mut target = target(rng);
+            change(&mut target, rng);
+            offer(&target.block, Intent::Open);
+        }
+        let mut block = shelf(rng).block();
+        for _ in 0..rng.range(1, 3) {
+            let at = rng.range(TYPES_AT, block.len() - 1);
+            block[at] = rng.byte();
+        }
+        offer(&block, Intent::Open);
+    }
+}
+
+fn other_known_type(target: &mut Target, rng: &mut Rng) {
+    target.block[target.slot_at] = rng.pick(&Kind::ALL).code();
+}
+
+/// One element more here and one less there, so that the total stays unless a count wraps.
+fn moved_count(target: &mut Target, rng: &mut Rng) {
+    let from = other_slot(target, rng);
+    let to = target.slot_at;
+    target.block[from + 1] = target.block[from + 1].wrapping_sub(1);
+    target.block[to + 1] = target.block[to + 1].wrapping_add(1);
+}
+
+fn exchanged_slots(target: &mut Target, rng: &mut Rng) {
+    let other = other_slot(target, rng);
+    for offset in 0..SLOT_BYTES {
+        target.block.swap(target.slot_at + offset, other + offset);
+    }
+}
+
+/// The place of any slot in use.
+fn other_slot(target: &Target, rng: &mut Rng) -> usize {
+    let types = usize::from(target.block[TYPES_AT]);
+    SLOTS_AT + SLOT_BYTES * rng.range(0, types - 1)
+}
+
+fn sparse_element(target: &mut Target, rng: &mut Rng) {
+    let element = &mut target.block[target.element_at..target.element_at + ELEMENT_BYTES];
+    element.fill(0);
+    for _ in 0..rng.range(0, 3) {
+        element[rng.range(0, ELEMENT_BYTES - 1)] = rng.byte();
+    }
+}
+
+fn shelf(rng: &mut Rng) -> Shelf {
+    let types = rng.range(1, 8);
+    let elements = if rng.one_in(6) { 64 } else { rng.range(0, 64) };
+    let groups = groups(rng, types, elements);
+    shelf_of(rng, groups)
+}
+
+fn shelf_of(rng: &mut Rng, groups: Vec<Group>) -> Shelf {
+    Shelf {
+        generation: u32::from_be_bytes(from_fn(|_| rng.byte())),
+        identification: Identification {
+            logical_identifier: from_fn(|_| rng.byte()),
+            vendor: from_fn(|_| rng.byte()),
+            product: from_fn(|_| rng.byte()),
+            revision: from_fn(|_| rng.byte()),
+        },
+        groups,
+    }
+}
+
+/// The group among others of random types, as full as a shelf may be, and its place there.
+fn surround(rng: &mut Rng, group: Group, others: usize) -> (Vec<Group>, usize) {
+    let room = 64 - group.elements.len();
+    let elements = if others == 0 { 0 } else { rng.range(0, room) };
+    let mut groups = groups(rng, others, elements);
+    let place = rng.range(0, others);
+    groups.insert(place, group);
+    (groups, place)
+}
+
+/// Random shares, so that a type often has none or nearly all of the elements.
+fn groups(rng: &mut Rng, types: usize, elements: usize) -> Vec<Group> {
+    let mut counts = vec![0; types];
+    let mut left = elements;
+    while left > 0 {
+        let share = rng.range(1, left);
+        counts[rng.range(0, types - 1)] += share;
+        left -= share;
+    }
+    let mut groups = Vec::new();
+    for count in counts {
+        let kind = rng.pick(&Kind::ALL);
+        groups.push(group(rng, kind, count));
+    }
+    groups
+}
+
+/// Nearly equal shares, so that each count fits in its byte.
+fn too_many(rng: &mut Rng, types: usize, elements: usize) -> Vec<Group> {
+    let mut groups = Vec::new();
+    for place in 0..types {
+        let kind = rng.pick(&Kind::ALL);
+        let count = elements * (place + 1) / types - elements * place / types;
+        groups.push(group(rng, kind, count));
+    }
+    groups
+}
+
+fn group(rng: &mut Rng, kind: Kind, count: usize) -> Group {
+    let length = near(rng, &[0, 1, 31, 32], 0, 32);
+    Group {
+        kind,
+        text: text(rng, length.into()),
+        elements: (0..count).map(|_| element(rng, kind)).collect(),
+    }
+}
+
+fn text(rng: &mut Rng, length: usize) -> Vec<u8> {
+    (0..length)
+        .map(|_| near(rng, &[0x20, 0x7E], 0x20, 0x7E) as u8)
+        .collect()
+}
+
+fn element(rng: &mut Rng, kind: Kind) -> Element {
+    match kind {
+        Kind::Cooling => Element::Cooling {
+            settings: FanSettings {
+                common: settings(rng),
+                on: rng.one_in(2),
+                speed: rng.range(1, 7) as u8,
+            },
+            thresholds: Thresholds::default(),
+            reading: near(rng, &[0, 1, 255, 256, 2_046, 2_047], 0, 2_047),
+            nominal: 0,
+        },
+        Kind::Temperature => {
+            let (low_warning, low_critical) = ordered_pair(rng);
+            Element::Temperature {
+                settings: settings(rng),
+                thresholds: Thresholds {
+                    low_warning,
+                    low_critical,
+                    ..high_thresholds(rng)
+                },
+                reading: near(rng, &[0, 1, 254, 255], 0, 255),
+                nominal: 0,
+            }
+        }
+        Kind::Voltage => {
+            let (low_critical, low_warning) = ordered_pair(rng);
+            Element::Voltage {
+                settings: settings(rng),
+                thresholds: Thresholds {
+                    low_warning,
+                    low_critical,
+                    ..high_thresholds(rng)
+                },
+                reading: signed_reading(rng),
+                nominal: nominal(rng),
+            }
+        }
+        Kind::Current => Element::Current {
+            settings: settings(rng),
+            thresholds: high_thresholds(rng),
+            reading: signed_reading(rng),
+            nominal: nominal(rng),
+        },
+    }
+}
+
+fn settings(rng: &mut Rng) -> Settings {
+    Settings {
+        prdfail: rng.one_in(2),
+        disabled: rng.one_in(2),
+        swap: rng.one_in(2),
+        ident: rng.one_in(2),
+        fail: rng.one_in(2),
+    }
+}
+
+fn signed_reading(rng: &mut Rng) -> i16 {
+    let any = rng.word() as i16;
+    rng.pick(&[i16::MIN, -1, 0, 1, i16::MAX, any, any, any])
+}
+
+fn nominal(rng: &mut Rng) -> u16 {
+    near(rng, &[1, 2, 255, 256, 32_766, 32_767], 1, 32_767)
+}
+
+fn high_thresholds(rng: &mut Rng) -> Thresholds {
+    let (high_critical, high_warning) = ordered_pair(rng);
+    Thresholds {
+        high_critical,
+        high_warning,
+        ..Thresholds::default()
+    }
+}
+
+/// The first byte is at least the second, or one of them is zero.
+fn ordered_pair(rng: &mut Rng) -> (u8, u8) {
+    match rng.range(0, 4) {
+        0 => (0, rng.byte()),
+        1 => (rng.byte(), 0),
+        2 => {
+            let both = rng.byte();
+            (both, both)
+        }
+        _ => unequal_pair(rng),
+    }
+}
+
+/// Both nonzero and the first greater, often by no more than one.
+fn unequal_pair(rng: &mut Rng) -> (u8, u8) {
+    let smaller = rng.range(1, 254);
+    let greater = if rng.one_in(2) {
+        smaller + 1
+    } else {
+        rng.range(smaller + 1, 255)
+    };
+    (greater as u8, smaller as u8)
+}
+
+/// One of the edges as often as any number from `low` to `high`.
+fn near(rng: &mut Rng, edges: &[u16], low: u16, high: u16) -> u16 {
+    if rng.one_in(2) {
+        rng.pick(edges)
+    } else {
+        rng.range(low.into(), high.into()) as u16
+    }
+}

@@ -1,0 +1,385 @@
+//! The rules for one element: control, thresholds, verdict and status.
+
+use crate::bits::{bit, flag};
+use crate::record::{Element, FanSettings, Kind, Settings, Thresholds};
+
+/// A selected control element has a reserved bit set: refusal 6.
+#[derive(Clone, Copy, Debug, PartialEq, Eq)]
+pub struct ReservedBit;
+
+#[derive(Clone, Copy)]
+struct Request {
+    prdfail: bool,
+    disable: bool,
+    rst_swap: bool,
+    rqst_ident: bool,
+    rqst_fail: bool,
+}
+
+#[derive(Clone, Copy)]
+struct FanRequest {
+    common: Request,
+    rqst_on: bool,
+    speed_code: u8,
+}
+
+impl Element {
+    /// This element after a control page with these two control elements for it.
+    pub fn control(
+        mut self,
+        overall: [u8; 4],
+        individual: [u8; 4],
+    ) -> Result<Element, ReservedBit> {
+        match &mut self {
+            Element::Cooling { settings, .. } => {
+                let overall = FanRequest::decode(overall)?;
+                let individual = FanRequest::decode(individual)?;
+                if let Some(request) = choose(overall, individual) {
+                    *settings = request.act(*settings);
+                }
+            }
+            Element::Temperature { settings, .. }
+            | Element::Voltage { settings, .. }
+            | Element::Current { settings, .. } => {
+                let overall = Request::decode(overall)?;
+                let individual = Request::decode(individual)?;
+                if let Some(request) = choose(overall, individual) {
+                    *settings = request.act(*settings);
+                }
+            }
+        }
+        Ok(self)
+    }
+}
+
+/// Each side is none where SELECT is 0.
+fn choose<R>(overall: Option<R>, individual: Option<R>) -> Option<R> {
+    individual.or(overall)
+}
+
+/// None for an unselected element. A reserved bit is one that the request, formed again, lacks.
+fn decode<R>(
+    element: [u8; 4],
+    parse: fn([u8; 4]) -> R,
+    form: fn(&R) -> [u8; 4],
+) -> Result<Option<R>, ReservedBit> {
+    if !bit(element[0], 7) {
+        return Ok(None);
+    }
+    let request = parse(element);
+    if form(&request) == element {
+        Ok(Some(request))
+    } else {
+        Err(ReservedBit)
+    }
+}
+
+impl Request {
+    fn decode(element: [u8; 4]) -> Result<Option<Request>, ReservedBit> {
+        decode(element, Request::parse, Request::form)
+    }
+
+    fn parse([byte0, byte1, _, _]: [u8; 4]) -> Request {
+        Request {
+            prdfail: bit(byte0, 6),
+            disable: bit(byte0, 5),
+            rst_swap: bit(byte0, 4),
+            rqst_ident: bit(byte1, 7),
+            rqst_fail: bit(byte1, 6),
+        }
+    }
+
+    fn form(&self) -> [u8; 4] {
+        let byte1 = flag(self.rqst_ident, 7) + flag(self.rqst_fail, 6);
+        [self.selected_byte0(), byte1, 0, 0]
+    }
+
+    fn selected_byte0(&self) -> u8 {
+        let select = true;
+        flag(select, 7) + flag(self.prdfail, 6) + flag(self.disable, 5) + flag(self.rst_swap, 4)
+    }
+
+    fn act(&self, stored: Settings) -> Settings {
+        Settings {
+            prdfail: self.prdfail,
+            disabled: self.disable,
+            swap: stored.swap && !self.rst_swap,
+            ident: self.rqst_ident,
+            fail: self.rqst_fail,
+        }
+    }
+}
+
+impl FanRequest {
+    fn decode(element: [u8; 4]) -> Result<Option<FanRequest>, ReservedBit> {
+        decode(element, FanRequest::parse, FanRequest::form)
+    }
+
+    fn parse([byte0, byte1, _, byte3]: [u8; 4]) -> FanRequest {
+        FanRequest {
+            common: Request {
+                prdfail: bit(byte0, 6),
+                disable: bit(byte0, 5),
+                rst_swap: bit(byte0, 4),
+                rqst_ident: bit(byte1, 7),
+                rqst_fail: bit(byte3, 6),
+            },
+            rqst_on: bit(byte3, 5),
+            speed_code: byte3 % 8,
+        }
+    }
+
+    fn form(&self) -> [u8; 4] {
+        let byte1 = flag(self.common.rqst_ident, 7);
+        let byte3 = flag(self.common.rqst_fail, 6) + flag(self.rqst_on, 5) + self.speed_code;
+        [self.common.selected_byte0(), byte1, 0, byte3]
+    }
+
+    fn act(&self, stored: FanSettings) -> FanSettings {
+        FanSettings {
+            common: self.common.act(stored.common),
+            on: self.rqst_on,
+            speed: match self.speed_code {
+                0 => stored.speed,
+                code => code,
+            },
+        }
+    }
+}
+
+impl Thresholds {
+    /// What is stored after a Threshold Out page with these two elements.
+    pub fn joined(self, overall: Thresholds, individual: Thresholds) -> Thresholds {
+        let first_nonzero = |individual: u8, overall: u8, stored: u8| match (individual, overall) {
+            (0, 0) => stored,
+            (0, overall) => overall,
+            (individual, _) => individual,
+        };
+        Thresholds {
+            high_critical: first_nonzero(
+                individual.high_critical,
+                overall.high_critical,
+                self.high_critical,
+            ),
+            high_warning: first_nonzero(
+                individual.high_warning,
+                overall.high_warning,
+                self.high_warning,
+            ),
+            low_warning: first_nonzero(
+                individual.low_warning,
+                overall.low_warning,
+                self.low_warning,
+            ),
+            low_critical: first_nonzero(
+                individual.low_critical,
+                overall.low_critical,
+                self.low_critical,
+            ),
+        }
+    }
+
+    pub fn keep_order(&self, kind: Kind) -> bool {
+        let at_least = |above: u8, below: u8| above == 0 || below == 0 || above >= below;
+        let high = at_least(self.high_critical, self.high_warning);
+        let low = match kind {
+            Kind::Temperature => at_least(self.low_warning, self.low_critical),
+            Kind::Voltage => at_least(self.low_critical, self.low_warning),
+            Kind::Cooling | Kind::Current => true,
+        };
+        high && low
+    }
+}
+
+#[derive(Clone, Copy, Debug, PartialEq, Eq)]
+pub enum Code {
+    Normal,
+    Critical,
+    NonCritical,
+    NoReading,
+}
+
+/// Which of the four limits trip.
+#[derive(Clone, Copy, Debug, Default, PartialEq, Eq)]
+pub struct Limits {
+    pub critical_over: bool,
+    pub warning_over: bool,
+    pub warning_under: bool,
+    pub critical_under: bool,
+}
+
+#[derive(Clone, Copy, Debug, PartialEq, Eq)]
+pub struct Verdict {
+    pub code: Code,
+    pub limits: Limits,
+}
+
+impl Code {
+    fn number(self) -> u8 {
+        match self {
+            Code::Normal => 1,
+            Code::Critical => 2,
+            Code::NonCritical => 3,
+            Code::NoReading => 6,
+        }
+    }
+}
+
+impl Limits {
+    fn verdict(self) -> Verdict {
+        let code = if self.critical_over || self.critical_under {
+            Code::Critical
+        } else if self.warning_over || self.warning_under {
+            Code::NonCritical
+        } else {
+            Code::Normal
+        };
+        Verdict { code, limits: self }
+    }
+}
+
+impl Element {
+    pub fn verdict(&self) -> Verdict {
+        match *self {
+            Element::Cooling {
+                settings, reading, ..
+            } => fan_verdict(settings, reading),
+            Element::Temperature {
+                thresholds,
+                reading,
+                ..
+            } => temperature_verdict(thresholds, reading),
+            Element::Voltage {
+                thresholds,
+                reading,
+                nominal,
+                ..
+            } => voltage_limits(thresholds, reading.into(), nominal.into()).verdict(),
+            Element::Current {
+                thresholds,
+                reading,
+                nominal,
+                ..
+            } => current_limits(thresholds, reading.into(), nominal.into()).verdict(),
+        }
+    }
+
+    /// The four bytes that show this element on the status page.
+    pub fn status(&self) -> [u8; 4] {
+        let Verdict { code, limits } = self.verdict();
+        match *self {
+            Element::Cooling {
+                settings, reading, ..
+            } => fan_status(settings, reading, code),
+            Element::Temperature {
+                settings, reading, ..
+            } => temperature_status(settings, reading, code, limits),
+            Element::Voltage {
+                settings, reading, ..
+            }
+            | Element::Current {
+                settings, reading, ..
+            } => electric_status(settings, reading, code, limits),
+        }
+    }
+}
+
+fn fan_verdict(settings: FanSettings, reading: u16) -> Verdict {
+    let code = if settings.on && reading == 0 {
+        Code::Critical
+    } else {
+        Code::Normal
+    };
+    Verdict {
+        code,
+        limits: Limits::default(),
+    }
+}
+
+fn temperature_verdict(thresholds: Thresholds, reading: u16) -> Verdict {
+    if reading == 0 {
+        return Verdict {
+            code: Code::NoReading,
+            limits: Limits::default(),
+        };
+    }
+    let degrees = |byte: i32| byte - 20;
+    let measured = degrees(reading.into());
+    let above = |limit: u8| limit != 0 && measured > degrees(limit.into());
+    let below = |limit: u8| limit != 0 && measured < degrees(limit.into());
+    let limits = Limits {
+        critical_over: above(thresholds.high_critical),
+        warning_over: above(thresholds.high_warning),
+        warning_under: below(thresholds.low_warning),
+        critical_under: below(thresholds.low_critical),
+    };
+    limits.verdict()
+}
+
+fn voltage_limits(thresholds: Thresholds, v: i64, n: i64) -> Limits {
+    Limits {
+        critical_over: trips_high(thresholds.high_critical, v, n),
+        warning_over: trips_high(thresholds.high_warning, v, n),
+        warning_under: trips_low(thresholds.low_warning, v, n),
+        critical_under: trips_low(thresholds.low_critical, v, n),
+    }
+}
+
+fn current_limits(thresholds: Thresholds, v: i64, n: i64) -> Limits {
+    Limits {
+        critical_over: trips_high(thresholds.high_critical, v, n),
+        warning_over: trips_high(thresholds.high_warning, v, n),
+        ..Limits::default()
+    }
+}
+
+/// `v` and `n` are reading and nominal; a limit counts in half percents of the nominal.
+fn trips_high(limit: u8, v: i64, n: i64) -> bool {
+    limit != 0 && 200 * (v - n) > n * i64::from(limit)
+}
+
+fn trips_low(limit: u8, v: i64, n: i64) -> bool {
+    limit != 0 && 200 * (n - v) > n * i64::from(limit)
+}
+
+fn status_byte0(settings: Settings, code: Code) -> u8 {
+    flag(settings.prdfail, 6) + flag(settings.disabled, 5) + flag(settings.swap, 4) + code.number()
+}
+
+fn fan_status(settings: FanSettings, reading: u16, code: Code) -> [u8; 4] {
+    let [upper, lower] = reading.to_be_bytes();
+    [
+        status_byte0(settings.common, code),
+        flag(settings.common.ident, 7) + upper,
+        lower,
+        flag(settings.common.fail, 6)
+            + flag(settings.on, 5)
+            + flag(!settings.on, 4)
+            + settings.speed,
+    ]
+}
+
+fn temperature_status(settings: Settings, reading: u16, code: Code, limits: Limits) -> [u8; 4] {
+    let [_, reading] = reading.to_be_bytes();
+    [
+        status_byte0(settings, code),
+        flag(settings.ident, 7) + flag(settings.fail, 6),
+        reading,
+        flag(limits.critical_over, 3)
+            + flag(limits.warning_over, 2)
+            + flag(limits.critical_under, 1)
+            + flag(limits.warning_under, 0),
+    ]
+}
+
+/// Voltage and current: a current never trips a low limit, so its UNDER bits stay 0.
+fn electric_status(settings: Settings, reading: i16, code: Code, limits: Limits) -> [u8; 4] {
+    let byte1 = flag(settings.ident, 7)
+        + flag(settings.fail, 6)
+        + flag(limits.warning_over, 3)
+        + flag(limits.warning_under, 2)
+        + flag(limits.critical_over, 1)
+        + flag(limits.critical_under, 0);
+    let [upper, lower] = reading.to_be_bytes();
+    [status_byte0(settings, code), byte1, upper, lower]
+}

@@ -1,0 +1,30 @@
+//! An outside check of the library, written from the rules alone.
+
+mod bits;
+mod cases;
+mod element;
+mod library;
+mod record;
+mod rng;
+mod selftest;
+mod shelves;
+
+use std::process::ExitCode;
+
+fn main() -> ExitCode {
+    let arguments: Vec<String> = std::env::args().skip(1).collect();
+    let command: Vec<&str> = arguments.iter().map(String::as_str).collect();
+    let passed = match command[..] {
+        ["selftest"] => selftest::run(),
+        ["shelves"] => shelves::run(),
+        _ => {
+            eprintln!("usage: independent selftest | shelves");
+            return ExitCode::from(2);
+        }
+    };
+    if passed {
+        ExitCode::SUCCESS
+    } else {
+        ExitCode::FAILURE
+    }
+}

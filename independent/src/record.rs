@@ -1,0 +1,415 @@
+//! The shelf record as typed data, what makes it well formed, and its block of bytes.
+
+use crate::bits::{bit, flag};
+
+const TYPE_SLOTS: usize = 8;
+const SLOT_BYTES: usize = 36;
+const TEXT_ROOM: usize = 32;
+const MOST_ELEMENTS: usize = 64;
+
+#[derive(Clone, Debug, PartialEq, Eq)]
+pub struct Shelf {
+    pub generation: u32,
+    pub identification: Identification,
+    pub groups: Vec<Group>,
+}
+
+#[derive(Clone, Debug, PartialEq, Eq)]
+pub struct Identification {
+    pub logical_identifier: [u8; 8],
+    pub vendor: [u8; 8],
+    pub product: [u8; 16],
+    pub revision: [u8; 4],
+}
+
+/// One entry of the type list with its elements.
+#[derive(Clone, Debug, PartialEq, Eq)]
+pub struct Group {
+    pub kind: Kind,
+    pub text: Vec<u8>,
+    pub elements: Vec<Element>,
+}
+
+#[derive(Clone, Copy, Debug, PartialEq, Eq)]
+pub enum Kind {
+    Cooling,
+    Temperature,
+    Voltage,
+    Current,
+}
+
+/// Every field can hold all that its bytes can, so that a record may be malformed too.
+#[derive(Clone, Copy, Debug, PartialEq, Eq)]
+pub enum Element {
+    Cooling {
+        settings: FanSettings,
+        thresholds: Thresholds,
+        reading: u16,
+        nominal: u16,
+    },
+    Temperature {
+        settings: Settings,
+        thresholds: Thresholds,
+        reading: u16,
+        nominal: u16,
+    },
+    Voltage {
+        settings: Settings,
+        thresholds: Thresholds,
+        reading: i16,
+        nominal: u16,
+    },
+    Current {
+        settings: Settings,
+        thresholds: Thresholds,
+        reading: i16,
+        nominal: u16,
+    },
+}
+
+#[derive(Clone, Copy, Debug, Default, PartialEq, Eq)]
+pub struct Settings {
+    pub prdfail: bool,
+    pub disabled: bool,
+    pub swap: bool,
+    pub ident: bool,
+    pub fail: bool,
+}
+
+#[derive(Clone, Copy, Debug, PartialEq, Eq)]
+pub struct FanSettings {
+    pub common: Settings,
+    pub on: bool,
+    pub speed: u8,
+}
+
+#[derive(Clone, Copy, Debug, Default, PartialEq, Eq)]
+pub struct Thresholds {
+    pub high_critical: u8,
+    pub high_warning: u8,
+    pub low_warning: u8,
+    pub low_critical: u8,
+}
+
+/// The record whose block these bytes are, or none if they are no record's block.
+pub fn read(block: &[u8]) -> Option<Shelf> {
+    let shelf = Shelf::parse(&mut Cursor { rest: block })?;
+    // Parsing passes over padding, bits without a name and surplus bytes; writing the record
+    // again shows them.
+    (shelf.block() == block).then_some(shelf)
+}
+
+pub fn is_well_formed_block(block: &[u8]) -> bool {
+    match read(block) {
+        Some(shelf) => shelf.well_formed(),
+        None => false,
+    }
+}
+
+impl Shelf {
+    pub fn well_formed(&self) -> bool {
+        let elements: usize = self.groups.iter().map(|group| group.elements.len()).sum();
+        (1..=TYPE_SLOTS).contains(&self.groups.len())
+            && elements <= MOST_ELEMENTS
+            && self.groups.iter().all(Group::well_formed)
+    }
+
+    pub fn block(&self) -> Vec<u8> {
+        let mut block = Vec::new();
+        block.extend(self.generation.to_be_bytes());
+        block.extend(self.identification.logical_identifier);
+        block.extend(self.identification.vendor);
+        block.extend(self.identification.product);
+        block.extend(self.identification.revision);
+        block.extend([self.groups.len() as u8, 0, 0, 0]);
+        for group in &self.groups {
+            block.extend(group.slot());
+        }
+        for _ in self.groups.len()..TYPE_SLOTS {
+            block.extend([0; SLOT_BYTES]);
+        }
+        for element in self.groups.iter().flat_map(|group| &group.elements) {
+            block.extend(element.bytes());
+        }
+        block
+    }
+
+    fn parse(cursor: &mut Cursor) -> Option<Shelf> {
+        let generation = u32::from_be_bytes(cursor.take()?);
+        let identification = Identification {
+            logical_identifier: cursor.take()?,
+            vendor: cursor.take()?,
+            product: cursor.take()?,
+            revision: cursor.take()?,
+        };
+        let [types, _, _, _] = cursor.take()?;
+        let mut slots = Vec::new();
+        for _ in 0..TYPE_SLOTS {
+            slots.push(cursor.take::<SLOT_BYTES>()?);
+        }
+        let mut groups = Vec::new();
+        for slot in slots.get(..usize::from(types))? {
+            groups.push(Group::parse(slot, cursor)?);
+        }
+        Some(Shelf {
+            generation,
+            identification,
+            groups,
+        })
+    }
+}
+
+impl Group {
+    fn well_formed(&self) -> bool {
+        self.elements.len() <= MOST_ELEMENTS
+            && self.text.len() <= TEXT_ROOM
+            && self
+                .text
+                .iter()
+                .all(|letter| (0x20..=0x7E).contains(letter))
+            && self
+                .elements
+                .iter()
+                .all(|element| element.kind() == self.kind)
+            && self.elements.iter().all(Element::well_formed)
+    }
+
+    fn slot(&self) -> [u8; SLOT_BYTES] {
+        let mut slot = [0; SLOT_BYTES];
+        slot[0] = self.kind.code();
+        slot[1] = self.elements.len() as u8;
+        slot[2] = self.text.len() as u8;
+        slot[4..4 + self.text.len()].copy_from_slice(&self.text);
+        slot
+    }
+
+    fn parse(slot: &[u8; SLOT_BYTES], cursor: &mut Cursor) -> Option<Group> {
+        let kind = Kind::from_code(slot[0])?;
+        let text = slot[4..].get(..usize::from(slot[2]))?.to_vec();
+        let mut elements = Vec::new();
+        for _ in 0..slot[1] {
+            elements.push(Element::parse(kind, cursor)?);
+        }
+        Some(Group {
+            kind,
+            text,
+            elements,
+        })
+    }
+}
+
+impl Kind {
+    pub const ALL: [Kind; 4] = [
+        Kind::Cooling,
+        Kind::Temperature,
+        Kind::Voltage,
+        Kind::Current,
+    ];
+
+    pub fn code(self) -> u8 {
+        match self {
+            Kind::Cooling => 0x03,
+            Kind::Temperature => 0x04,
+            Kind::Voltage => 0x12,
+            Kind::Current => 0x13,
+        }
+    }
+
+    fn from_code(code: u8) -> Option<Kind> {
+        Kind::ALL.into_iter().find(|kind| kind.code() == code)
+    }
+}
+
+impl Element {
+    pub fn kind(&self) -> Kind {
+        match self {
+            Element::Cooling { .. } => Kind::Cooling,
+            Element::Temperature { .. } => Kind::Temperature,
+            Element::Voltage { .. } => Kind::Voltage,
+            Element::Current { .. } => Kind::Current,
+        }
+    }
+
+    fn well_formed(&self) -> bool {
+        let in_range = match self {
+            Element::Cooling {
+                settings,
+                thresholds,
+                reading,
+                nominal,
+            } => {
+                (1..=7).contains(&settings.speed)
+                    && *thresholds == Thresholds::default()
+                    && *reading <= 2047
+                    && *nominal == 0
+            }
+            Element::Temperature {
+                reading, nominal, ..
+            } => *reading <= 255 && *nominal == 0,
+            Element::Voltage { nominal, .. } => (1..=32767).contains(nominal),
+            Element::Current {
+                thresholds,
+                nominal,
+                ..
+            } => {
+                thresholds.low_warning == 0
+                    && thresholds.low_critical == 0
+                    && (1..=32767).contains(nominal)
+            }
+        };
+        in_range && self.thresholds().keep_order(self.kind())
+    }
+
+    pub fn thresholds(&self) -> Thresholds {
+        match self {
+            Element::Cooling { thresholds, .. }
+            | Element::Temperature { thresholds, .. }
+            | Element::Voltage { thresholds, .. }
+            | Element::Current { thresholds, .. } => *thresholds,
+        }
+    }
+
+    fn bytes(&self) -> [u8; 16] {
+        let (settings, reading, nominal) = match self {
+            Element::Cooling {
+                settings,
+                reading,
+                nominal,
+                ..
+            } => (settings.bytes(), reading.to_be_bytes(), nominal),
+            Element::Temperature {
+                settings,
+                reading,
+                nominal,
+                ..
+            } => (settings.bytes(), reading.to_be_bytes(), nominal),
+            Element::Voltage {
+                settings,
+                reading,
+                nominal,
+                ..
+            }
+            | Element::Current {
+                settings,
+                reading,
+                nominal,
+                ..
+            } => (settings.bytes(), reading.to_be_bytes(), nominal),
+        };
+        let mut bytes = [0; 16];
+        bytes[0..4].copy_from_slice(&settings);
+        bytes[4..8].copy_from_slice(&self.thresholds().bytes());
+        bytes[8..10].copy_from_slice(&reading);
+        bytes[10..12].copy_from_slice(&nominal.to_be_bytes());
+        bytes
+    }
+
+    fn parse(kind: Kind, cursor: &mut Cursor) -> Option<Element> {
+        let settings = cursor.take()?;
+        let thresholds = Thresholds::from_bytes(cursor.take()?);
+        let reading = cursor.take()?;
+        let nominal = u16::from_be_bytes(cursor.take()?);
+        let _room_kept: [u8; 4] = cursor.take()?;
+        Some(match kind {
+            Kind::Cooling => Element::Cooling {
+                settings: FanSettings::from_bytes(settings),
+                thresholds,
+                reading: u16::from_be_bytes(reading),
+                nominal,
+            },
+            Kind::Temperature => Element::Temperature {
+                settings: Settings::from_bytes(settings),
+                thresholds,
+                reading: u16::from_be_bytes(reading),
+                nominal,
+            },
+            Kind::Voltage => Element::Voltage {
+                settings: Settings::from_bytes(settings),
+                thresholds,
+                reading: i16::from_be_bytes(reading),
+                nominal,
+            },
+            Kind::Current => Element::Current {
+                settings: Settings::from_bytes(settings),
+                thresholds,
+                reading: i16::from_be_bytes(reading),
+                nominal,
+            },
+        })
+    }
+}
+
+impl Settings {
+    fn bytes(&self) -> [u8; 4] {
+        let byte0 = flag(self.prdfail, 6) + flag(self.disabled, 5) + flag(self.swap, 4);
+        let byte1 = flag(self.ident, 7) + flag(self.fail, 6);
+        [byte0, byte1, 0, 0]
+    }
+
+    fn from_bytes([byte0, byte1, _, _]: [u8; 4]) -> Settings {
+        Settings {
+            prdfail: bit(byte0, 6),
+            disabled: bit(byte0, 5),
+            swap: bit(byte0, 4),
+            ident: bit(byte1, 7),
+            fail: bit(byte1, 6),
+        }
+    }
+}
+
+impl FanSettings {
+    fn bytes(&self) -> [u8; 4] {
+        let common = self.common;
+        let byte0 = flag(common.prdfail, 6) + flag(common.disabled, 5) + flag(common.swap, 4);
+        let byte1 = flag(common.ident, 7);
+        let byte3 = flag(common.fail, 6) + flag(self.on, 5) + self.speed;
+        [byte0, byte1, 0, byte3]
+    }
+
+    fn from_bytes([byte0, byte1, _, byte3]: [u8; 4]) -> FanSettings {
+        FanSettings {
+            common: Settings {
+                prdfail: bit(byte0, 6),
+                disabled: bit(byte0, 5),
+                swap: bit(byte0, 4),
+                ident: bit(byte1, 7),
+                fail: bit(byte3, 6),
+            },
+            on: bit(byte3, 5),
+            speed: byte3 % 8,
+        }
+    }
+}
+
+impl Thresholds {
+    fn bytes(&self) -> [u8; 4] {
+        [
+            self.high_critical,
+            self.high_warning,
+            self.low_warning,
+            self.low_critical,
+        ]
+    }
+
+    pub fn from_bytes([high_critical, high_warning, low_warning, low_critical]: [u8; 4]) -> Self {
+        Thresholds {
+            high_critical,
+            high_warning,
+            low_warning,
+            low_critical,
+        }
+    }
+}
+
+/// Bytes taken from the front, none once they run out.
+struct Cursor<'a> {
+    rest: &'a [u8],
+}
+
+impl Cursor<'_> {
+    fn take<const N: usize>(&mut self) -> Option<[u8; N]> {
+        let taken = self.rest.get(..N)?.try_into().ok()?;
+        self.rest = &self.rest[N..];
+        Some(taken)
+    }
+}

@@ -1,4 +1,5 @@
-//! Holds the program against the numbers that the rules themselves give for one element.
+//! Checks this program alone: the paper's own numbers for one element, and examples worked out by
+//! hand from its rules where it gives none.
 
 use crate::element::{Code, Limits, ReservedBit, Verdict};
 use crate::record::{

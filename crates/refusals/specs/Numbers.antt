@@ -1,0 +1,24 @@
+-- The table of refusal numbers. Assumes nothing.
+use mathlib.Core.Path.{_≡_, refl, sym, ap, _∙_}
+use Prim.Native.Nat.{ℕ}
+use Rattle.refusals.specs.declared.Refusal.{Refusal}
+use Rattle.refusals.specs.declared.Refusal.the-variants.{ShelfNotWellFormed, PageTooShort, PageCode, PageLength, Generation, NotAllowed, NoSuchThreshold, ThresholdOrder, WantedList, Unreachable, OutputTooShort}
+use Rattle.refusals.specs.declared.Answer.{Answer}
+use Rattle.refusals.specs.declared.Answer.the-variants.{Accepted, Refused}
+
+abbrev pub numberOf : Refusal → ℕ
+numberOf ShelfNotWellFormed = 1
+numberOf PageTooShort = 2
+numberOf PageCode = 3
+numberOf PageLength = 4
+numberOf Generation = 5
+numberOf NotAllowed = 6
+numberOf NoSuchThreshold = 7
+numberOf ThresholdOrder = 8
+numberOf WantedList = 9
+numberOf Unreachable = 10
+numberOf OutputTooShort = 11
+
+abbrev pub answerNumber : Answer → ℕ
+answerNumber Accepted = 0
+answerNumber (Refused r) = numberOf r

@@ -6,6 +6,7 @@ use Prim.Native.Nat.{ℕ, zero, suc, _+_, _<_, _≤_}
 use native.Mathlib.Nat.{not-suc-le-zero, le-of-suc-le-suc, eq-or-lt-of-le}
 use native.Mathlib.Numerals.{add-one}
 use native.Mathlib.Omega.{arith}
+use borrow.Author.Tests.{not-true, le-ltb, lt-ltb}
 use mir.Val.{Fits}
 use mir.Syntax.{w8}
 use Rattle.bits.specs.Choice.{pick, allBelow, firstBelow, sumBelow}
@@ -60,6 +61,32 @@ below-next f n t e = rw (add-one, t, e)
 pub below-all : (f : ℕ → Bool) (n : ℕ) → ((k : ℕ) → k < n → f k ≡ true) → allBelow f n ≡ true
 below-all f zero h = refl
 below-all f (suc n) h = and-both (below-all f n (λ k l. h k (omega arith))) (h n (omega arith))
+
+-- the test f fails
+abbrev pub fails : (ℕ → Bool) → ℕ → Bool
+fails f k = not (f k)
+
+-- a search that found nothing
+pub first-none : (f : ℕ → Bool) (n : ℕ) → allBelow (fails f) n ≡ true → firstBelow f n ≡ n
+first-none f zero t = refl
+first-none f (suc n) t =
+    let e = first-none f n (and-left (allBelow (fails f) n) (not (f n)) t) in
+    let q = not-true (f n) (and-right (allBelow (fails f) n) (not (f n)) t) in
+    rw (e, le-ltb n n (omega arith), q)
+
+-- a search that stopped at k
+pub first-at : (f : ℕ → Bool) (n k : ℕ) → k < n → allBelow (fails f) k ≡ true → f k ≡ true → firstBelow f n ≡ k
+first-at f zero k h t e = absurd (not-suc-le-zero h)
+first-at f (suc n) k h t e =
+    ⊎-elim (λ q. last q)
+    (λ l. rw (first-at f n k l t e, lt-ltb k n l))
+    (eq-or-lt-of-le (le-of-suc-le-suc h))
+  where
+    last : k ≡ n → firstBelow f (suc n) ≡ k
+    last q =
+        let u : allBelow (fails f) n ≡ true = rw (← q) t in
+        let v : f n ≡ true = rw (← q) e in
+        rw (first-none f n u, le-ltb n n (omega arith), v) (sym q)
 
 abbrev pub same : Bool → Bool → Bool
 same true b = b

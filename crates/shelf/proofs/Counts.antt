@@ -1,0 +1,19 @@
+-- How many elements stand before a type, one type after the other. Assumes nothing.
+use mathlib.Core.Path.{_≡_, refl, sym, ap, _∙_}
+use mathlib.Core.List.{List}
+use Prim.Native.Nat.{ℕ, _+_}
+use native.Mathlib.Numerals.{add-one}
+use Rattle.bits.specs.Choice.{sumBelow}
+use Rattle.shelf.specs.Types.{typeCount, before}
+
+pub before-none : (s : List ℕ) → before s 0 ≡ 0
+unfolding before
+before-none s = refl
+
+pub before-next : (s : List ℕ) (t : ℕ) → before s (t + 1) ≡ before s t + typeCount s t
+unfolding before
+before-next s t = ap (sumBelow (typeCount s)) (add-one t)
+
+-- the end of type t, from the end of the type before it and the count that was read
+pub ended : (s : List ℕ) (t : ℕ) {e n : ℕ} → e ≡ before s t → n ≡ typeCount s t → e + n ≡ before s (t + 1)
+ended s t p q = rw (p, q) (sym (before-next s t))

@@ -1,0 +1,4 @@
+pub mod Counts
+pub mod Judged
+pub mod Stages
+pub mod Stored

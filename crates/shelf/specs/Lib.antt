@@ -1,0 +1,4 @@
+pub mod Limits
+pub mod Types
+pub mod Elements
+pub mod Formed

@@ -1,0 +1,35 @@
+// The limits of a shelf record, and the places that follow from them. They stand here and nowhere else.
+ghost use mathlib.Core.Path.{_≡_};
+ghost use Rattle.shelf.specs.Limits.{typePlace, elementPlace};
+
+pub const MOST_TYPES: u16 = 8;
+pub const MOST_ELEMENTS: u16 = 64;
+pub const MOST_IN_TYPE: u8 = 64;
+pub const MOST_TEXT: u32 = 32;
+
+pub const GENERATION: u32 = 0;
+pub const IDENTIFICATION: u32 = 4;
+pub const TYPES: u32 = 40;
+const FIRST_TYPE: u32 = 44;
+pub const TYPE_SIZE: u32 = 4 + MOST_TEXT;
+const FIRST_ELEMENT: u32 = FIRST_TYPE + TYPE_SIZE * 8;
+const ELEMENT_SIZE: u32 = 16;
+
+pub fn type_place(t: u16) -> u32
+    ensures { λ r. ⌜ r ≡ typePlace t ⌝ }
+{
+    FIRST_TYPE + TYPE_SIZE * t as u32
+}
+
+pub fn element_place(j: u16) -> u32
+    ensures { λ r. ⌜ r ≡ elementPlace j ⌝ }
+{
+    FIRST_ELEMENT + ELEMENT_SIZE * j as u32
+}
+
+// A shelf of n elements ends where element n would start.
+pub fn block_length(n: u16) -> usize
+    ensures { λ r. ⌜ r ≡ elementPlace n ⌝ }
+{
+    element_place(n) as usize
+}

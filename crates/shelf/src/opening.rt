@@ -1,0 +1,162 @@
+// Whether a block is a well-formed shelf.
+use crate::elements;
+use crate::limits;
+use crate::types;
+use kinds::settings;
+use kinds::thresholds;
+use kinds::types::Kind;
+ghost use mathlib.Core.Path.{_≡_};
+ghost use Rattle.shelf.specs.Formed.{headFormed, textByteFormed, textFormed, typeFormed, typeEmpty, slotFormed, typesFormed, sizeFormed, spareClear, elementFormed, elementsFormed, opened};
+
+// How many types and elements a well-formed shelf has.
+pub struct Sizes {
+    pub types: u8,
+    pub elements: u16,
+}
+
+pub enum Opened {
+    Shelf(Sizes),
+    NotWellFormed,
+}
+
+pub fn open(shelf: &[u8]) -> Opened
+    ensures { λ r. ⌜ r ≡ opened (now (shelf .entry)) ⌝ }
+{
+    if !head_formed(shelf) {
+        return Opened::NotWellFormed;
+    }
+    let n = types::count(shelf);
+    if !types_formed(shelf, n) {
+        return Opened::NotWellFormed;
+    }
+    let elements = types::all_elements(shelf);
+    if !size_formed(shelf, elements) {
+        return Opened::NotWellFormed;
+    }
+    if !elements_formed(shelf, elements) {
+        return Opened::NotWellFormed;
+    }
+    Opened::Shelf(Sizes { types: n, elements })
+}
+
+// The number of types is one to eight, and the three bytes after it are zero.
+fn head_formed(shelf: &[u8]) -> bool
+    ensures { λ r. ⌜ r ≡ headFormed (now (shelf .entry)) ⌝ }
+{
+    let e = bits::four_at(shelf, limits::TYPES);
+    (1 <= e[0]) & (e[0] as u16 <= limits::MOST_TYPES) & (e[1] == 0) & (e[2] == 0) & (e[3] == 0)
+}
+
+// A byte of type t's text is printable, or zero past the text's end.
+fn text_byte_formed(shelf: &[u8], t: u16, i: u32) -> bool
+    ensures { λ r. ⌜ r ≡ textByteFormed (now (shelf .entry)) t i ⌝ }
+{
+    let b = bits::byte_at(shelf, limits::type_place(t) as usize + 4 + i as usize);
+    if i < types::text_length(shelf, t) as u32 {
+        (0x20 <= b) & (b <= 0x7e)
+    } else {
+        b == 0
+    }
+}
+
+fn text_formed(shelf: &[u8], t: u16) -> bool
+    ensures { λ r. ⌜ r ≡ textFormed (now (shelf .entry)) t ⌝ }
+{
+    let mut i: u32 = 0;
+    while i < limits::MOST_TEXT {
+        if !text_byte_formed(shelf, t, i) {
+            return false;
+        }
+        i += 1;
+    }
+    true
+}
+
+fn type_formed(shelf: &[u8], t: u16) -> bool
+    ensures { λ r. ⌜ r ≡ typeFormed (now (shelf .entry)) t ⌝ }
+{
+    let e = bits::four_at(shelf, limits::type_place(t));
+    Kind::is_served(e[0])
+        & (e[1] <= limits::MOST_IN_TYPE)
+        & (e[2] as u32 <= limits::MOST_TEXT)
+        & (e[3] == 0)
+        & text_formed(shelf, t)
+}
+
+// Past the last type all bytes are zero.
+fn type_empty(shelf: &[u8], t: u16) -> bool
+    ensures { λ r. ⌜ r ≡ typeEmpty (now (shelf .entry)) t ⌝ }
+{
+    let mut i: u32 = 0;
+    while i < limits::TYPE_SIZE {
+        if bits::byte_at(shelf, limits::type_place(t) as usize + i as usize) != 0 {
+            return false;
+        }
+        i += 1;
+    }
+    true
+}
+
+fn slot_formed(shelf: &[u8], n: u8, t: u16) -> bool
+    ensures { λ r. ⌜ r ≡ slotFormed (now (shelf .entry)) n t ⌝ }
+{
+    if t < n as u16 {
+        type_formed(shelf, t)
+    } else {
+        type_empty(shelf, t)
+    }
+}
+
+fn types_formed(shelf: &[u8], n: u8) -> bool
+    ensures { λ r. ⌜ r ≡ typesFormed (now (shelf .entry)) n ⌝ }
+{
+    let mut t: u16 = 0;
+    while t < limits::MOST_TYPES {
+        if !slot_formed(shelf, n, t) {
+            return false;
+        }
+        t += 1;
+    }
+    true
+}
+
+// The block has just the bytes that n elements need, and they are not too many.
+fn size_formed(shelf: &[u8], n: u16) -> bool
+    ensures { λ r. ⌜ r ≡ sizeFormed (now (shelf .entry)) n ⌝ }
+{
+    (n <= limits::MOST_ELEMENTS) & (shelf.len() == limits::block_length(n))
+}
+
+fn element_formed(shelf: &[u8], j: u16) -> bool
+    ensures { λ r. ⌜ r ≡ elementFormed (now (shelf .entry)) j ⌝ }
+{
+    let kind = types::kind_at(shelf, j);
+    let t = elements::thresholds_at(shelf, j);
+    settings::are_formed(kind, elements::settings_at(shelf, j))
+        & thresholds::are_had(kind, t)
+        & thresholds::are_ordered(kind, t)
+        & kind.may_read(elements::reading_at(shelf, j))
+        & kind.may_have_nominal(elements::nominal_at(shelf, j))
+        & spare_clear(shelf, j)
+}
+
+// The last four bytes of an element are zero.
+fn spare_clear(shelf: &[u8], j: u16) -> bool
+    ensures { λ r. ⌜ r ≡ spareClear (now (shelf .entry)) j ⌝ }
+{
+    let e = bits::four_at(shelf, limits::element_place(j) + 12);
+    (e[0] == 0) & (e[1] == 0) & (e[2] == 0) & (e[3] == 0)
+}
+
+fn elements_formed(shelf: &[u8], n: u16) -> bool
+    ensures { λ r. ⌜ r ≡ elementsFormed (now (shelf .entry)) n ⌝ }
+{
+    let mut j: u16 = 0;
+    while j < n {
+        if !element_formed(shelf, j) {
+            return false;
+        }
+        j += 1;
+    }
+    true
+}

@@ -12,7 +12,7 @@ ghost use Rattle.ses.specs.Calls.{checked};
 pub fn check(shelf: &[u8]) -> Answer
     ensures { λ r. ⌜ r ≡ checked (now (shelf .entry)) ⌝ }
 {
-    let opened = shelf::opening::open(shelf);
+    let opened = shelf::opening::open_shelf(shelf);
     let Opened::Shelf(_) = opened else {
         return Answer::Refused(Refusal::ShelfNotWellFormed);
     };

@@ -3,7 +3,10 @@ use mathlib.Core.Path.{_≡_, refl, sym, ap, _∙_}
 use mathlib.Core.Bool.{Bool, true, false, _&&_}
 use mathlib.Core.List.{List}
 use Prim.Native.Nat.{ℕ}
+use native.Mathlib.Omega.{arith}
+use Rattle.bits.specs.Choice.{pick}
 use Rattle.bits.proofs.Logic.{and-both, pick-yes, pick-no}
+use Rattle.shelf.specs.declared.opening.Sizes.{Sizes}
 use Rattle.shelf.specs.declared.opening.Opened.{Opened}
 use Rattle.shelf.specs.declared.opening.Opened.the-variants.{Shelf, NotWellFormed}
 use Rattle.shelf.specs.Types.{typesOf, elementsOf}
@@ -56,3 +59,21 @@ module _ (s : List ℕ) where
       (sym
       (pick-yes (wellFormed s) (Shelf (record { types = typesOf s; elements = elementsOf s })) NotWellFormed
       (and-both (and-both (and-both a (ap (typesFormed s) (sym p) ∙ b)) (ap (sizeFormed s) (sym q) ∙ c)) (ap (elementsFormed s) (sym q) ∙ d))))
+
+  -- what the answer says of the shelf
+  pub formed-sizes : {z : Sizes} → opened s ≡ Shelf z → (wellFormed s ≡ true) × (z .types ≡ typesOf s) × (z .elements ≡ elementsOf s)
+  unfolding opened
+  formed-sizes {z} e = go (wellFormed s) refl e
+    where
+      go : (t : Bool) → wellFormed s ≡ t → pick t (Shelf (record { types = typesOf s; elements = elementsOf s })) NotWellFormed ≡ Shelf z
+          → (wellFormed s ≡ true) × (z .types ≡ typesOf s) × (z .elements ≡ elementsOf s)
+      go true w q = let p : z ≡ record { types = typesOf s; elements = elementsOf s } = cc in (w, ap (λ (x : Sizes). x .types) p, ap (λ (x : Sizes). x .elements) p)
+      go false w q = let z : _≡_ {A = ℕ} 0 1 = cc in absurd (omega arith)
+
+  pub not-formed : opened s ≡ NotWellFormed → wellFormed s ≡ false
+  unfolding opened
+  not-formed e = go (wellFormed s) e
+    where
+      go : (t : Bool) → pick t (Shelf (record { types = typesOf s; elements = elementsOf s })) NotWellFormed ≡ NotWellFormed → t ≡ false
+      go true q = let z : _≡_ {A = ℕ} 0 1 = cc in absurd (omega arith)
+      go false q = refl

@@ -3,16 +3,25 @@ ghost use mathlib.Core.Path.{_≡_};
 ghost use Rattle.shelf.specs.Limits.{typePlace, elementPlace};
 
 pub const MOST_TYPES: u16 = 8;
+
 pub const MOST_ELEMENTS: u16 = 64;
+
 pub const MOST_IN_TYPE: u8 = 64;
+
 pub const MOST_TEXT: u32 = 32;
 
 pub const GENERATION: u32 = 0;
+
 pub const IDENTIFICATION: u32 = 4;
+
 pub const TYPES: u32 = 40;
+
 const FIRST_TYPE: u32 = 44;
+
 pub const TYPE_SIZE: u32 = 4 + MOST_TEXT;
+
 const FIRST_ELEMENT: u32 = FIRST_TYPE + TYPE_SIZE * 8;
+
 const ELEMENT_SIZE: u32 = 16;
 
 pub fn type_place(t: u16) -> u32

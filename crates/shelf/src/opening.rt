@@ -19,7 +19,7 @@ pub enum Opened {
     NotWellFormed,
 }
 
-pub fn open(shelf: &[u8]) -> Opened
+pub fn open_shelf(shelf: &[u8]) -> Opened
     ensures { λ r. ⌜ r ≡ opened (now (shelf .entry)) ⌝ }
 {
     if !head_formed(shelf) {

@@ -1,28 +1,32 @@
+-- `ses::check` meets its contract. Assumes nothing.
+use mathlib.Core.Path.{sym, _∙_}
+use denote.Ref.{now}
+use Rattle.bits.proofs.Logic.{pick-yes, pick-no}
+use Rattle.refusals.specs.declared.Refusal.the-variants.{ShelfNotWellFormed}
+use Rattle.refusals.specs.declared.Answer.the-variants.{Accepted, Refused}
+use Rattle.shelf.specs.Formed.{wellFormed}
+use Rattle.shelf.proofs.Stages.{formed-sizes, not-formed}
+use Rattle.ses.specs.Calls.{checked}
 use borrow.Author.Needs.{needs}
 use Rattle.ses.proofs.check.Statement.{statement}
 use Rattle.ses.proofs.check.Tie as tie
-use Rattle.ses.proofs.check.Reads as reads
-use Rattle.ses.proofs.check.Lts as lts
-use Rattle.shelf.proofs.opening.open.Reads as open-reads
 
--- src/lib.rt:15:9
-open-requires : tie.Need-open-requires
-open-requires c κs = search needs
+open-shelf-requires : tie.Need-open-shelf-requires
+open-shelf-requires c κs = search needs
 
 enum-told : tie.Need-enum-told
 enum-told c = search needs
 
--- src/lib.rt:17:32
 enum-told-2 : tie.Need-enum-told-2
 enum-told-2 c = search needs
 
--- src/lib.rt:17:9
 returns : tie.Need-returns
-returns c = ?
+unfolding checked
+returns c = let s = now (c .before .before .before .before .args .shelf) in sym (pick-no (wellFormed s) Accepted (Refused ShelfNotWellFormed) (not-formed s (sym (c .before .before .open-shelf .ensures) ∙ c .enum-told2 .given .1)))
 
--- src/lib.rt:12:1
 returns-2 : tie.Need-returns-2
-returns-2 c = ?
+unfolding checked
+returns-2 c = let s = now (c .before .before .before .before .args .shelf) in sym (pick-yes (wellFormed s) Accepted (Refused ShelfNotWellFormed) (formed-sizes s (sym (c .before .before .open-shelf .ensures) ∙ c .enum-told .given .1) .0))
 
 pub check-spec : {M : Type 1} → statement M
-check-spec = tie.close (tie.spec open-requires enum-told enum-told-2 returns returns-2)
+check-spec = tie.close (tie.spec open-shelf-requires enum-told enum-told-2 returns returns-2)

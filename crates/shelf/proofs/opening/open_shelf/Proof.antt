@@ -1,11 +1,11 @@
--- `shelf::opening::open` meets its contract. Assumes nothing.
+-- `shelf::opening::open_shelf` meets its contract. Assumes nothing.
 use mathlib.Core.Path.{sym, _∙_}
 use denote.Ref.{now}
 use borrow.Author.Tests.{not-true, not-false}
 use Rattle.shelf.proofs.Stages.{no-head, no-types, no-size, no-elements, all-passed}
 use borrow.Author.Needs.{needs}
-use Rattle.shelf.proofs.opening.open.Statement.{statement}
-use Rattle.shelf.proofs.opening.open.Tie as tie
+use Rattle.shelf.proofs.opening.open_shelf.Statement.{statement}
+use Rattle.shelf.proofs.opening.open_shelf.Tie as tie
 
 head-formed-requires : tie.Need-head-formed-requires
 head-formed-requires c κs = search needs
@@ -40,8 +40,8 @@ returns-4 c = no-elements (now (c .before .before .before .before .before .befor
 returns-5 : tie.Need-returns-5
 returns-5 c = all-passed (now (c .before .before .before .before .before .before .before .before .before .before .before .args .shelf)) (c .before .before .before .before .before .before .before .count .result) (c .before .before .before .before .all-elements .result) (c .before .before .before .before .before .before .before .count .ensures) (c .before .before .before .before .all-elements .ensures) (sym (c .before .before .before .before .before .before .before .before .before .head-formed .ensures) ∙ not-false _ (c .before .before .before .before .before .before .before .before .if1 .left)) (sym (c .before .before .before .before .before .before .types-formed .ensures) ∙ not-false _ (c .before .before .before .before .before .if2 .left)) (sym (c .before .before .before .size-formed .ensures) ∙ not-false _ (c .before .before .if3 .left)) (sym (c .before .elements-formed .ensures) ∙ not-false _ (c .if4 .left))
 
-pub open-spec : {M : Type 1} → statement M
-open-spec =
+pub open-shelf-spec : {M : Type 1} → statement M
+open-shelf-spec =
     tie.close
     (tie.spec
     head-formed-requires

@@ -14,11 +14,11 @@ use std::process::ExitCode;
 fn main() -> ExitCode {
     let arguments: Vec<String> = std::env::args().skip(1).collect();
     let command: Vec<&str> = arguments.iter().map(String::as_str).collect();
-    let passed = match command[..] {
+    let passed = match &command[..] {
         ["selftest"] => selftest::run(),
-        ["shelves"] => shelves::run(),
+        ["shelves", library @ ..] if !library.is_empty() => shelves::run(library),
         _ => {
-            eprintln!("usage: independent selftest | shelves");
+            eprintln!("usage: independent selftest | shelves PROGRAM [ARGUMENT]...");
             return ExitCode::from(2);
         }
     };

@@ -1,61 +1,79 @@
 //! Compares the library's answer on shelf blocks with the one reached here.
 
 use crate::cases::{self, Intent};
-use crate::library;
+use crate::library::Library;
 use crate::record;
 use crate::rng::Rng;
 use std::process::exit;
 
 const SEED: u64 = 0x5E5;
 const LEAST_OF_EACH: usize = 10_000;
+const ASKED_AT_ONCE: usize = 1_000;
 
-#[derive(Default)]
-struct Tally {
+struct Comparison {
+    library: Library,
+    waiting: Vec<Vec<u8>>,
     well_formed: usize,
     malformed: usize,
 }
 
-pub fn run() -> bool {
-    let mut tally = Tally::default();
+pub fn run(command: &[&str]) -> bool {
+    let mut comparison = Comparison {
+        library: Library::start(command),
+        waiting: Vec::new(),
+        well_formed: 0,
+        malformed: 0,
+    };
     cases::offer_all(&mut Rng::new(SEED), &mut |block, intent| {
-        tally.compare(block, intent)
+        comparison.take(block, intent)
     });
+    comparison.ask();
     println!(
         "shelves: {} blocks compared, {} well formed, {} not",
-        tally.well_formed + tally.malformed,
-        tally.well_formed,
-        tally.malformed
+        comparison.well_formed + comparison.malformed,
+        comparison.well_formed,
+        comparison.malformed
     );
-    let enough = tally.well_formed >= LEAST_OF_EACH && tally.malformed >= LEAST_OF_EACH;
+    let enough = comparison.well_formed >= LEAST_OF_EACH && comparison.malformed >= LEAST_OF_EACH;
     if !enough {
         println!("too few: at least {LEAST_OF_EACH} of each are wanted");
     }
-    enough
+    enough && comparison.library.end()
 }
 
-impl Tally {
-    fn compare(&mut self, block: &[u8], intent: Intent) {
+impl Comparison {
+    fn take(&mut self, block: &[u8], intent: Intent) {
         let well_formed = record::is_well_formed_block(block);
-        let own = if well_formed { 0 } else { 1 };
         if (intent == Intent::WellFormed && !well_formed)
             || (intent == Intent::Malformed && well_formed)
         {
             stop(
                 block,
-                &format!("made as {intent:?}, this program says {own}"),
+                &format!("made as {intent:?}, well formed here: {well_formed}"),
             );
         }
-        let library = library::check(block);
-        if library != own {
-            stop(
-                block,
-                &format!("library says {library}, this program says {own}"),
-            );
+        self.waiting.push(block.to_vec());
+        if self.waiting.len() == ASKED_AT_ONCE {
+            self.ask();
         }
-        if well_formed {
-            self.well_formed += 1;
-        } else {
-            self.malformed += 1;
+    }
+
+    fn ask(&mut self) {
+        let answers = self.library.check(&self.waiting);
+        for (block, library) in self.waiting.drain(..).zip(answers) {
+            let well_formed = record::is_well_formed_block(&block);
+            let own = if well_formed { 0 } else { 1 };
+            if library != own {
+                stop(
+                    &block,
+                    &format!("library says {library}, this program says {own}"),
+                );
+            }
+            if well_formed {
+                self.well_formed += 1;
+            } else {
+                self.malformed += 1;
+            }
         }
     }
 }

@@ -1,2 +1,4 @@
 pub mod Arms
 pub mod Scaled
+pub mod SettingsBack
+pub mod StatusBack

@@ -1,0 +1,225 @@
+-- Settings and the four bytes that store them say the same, each way round, and a control element keeps them storable. Assumes nothing.
+use mathlib.Core.Path.{_≡_, refl, sym, _∙_}
+use mathlib.Core.Bool.{Bool, true, false, not, _&&_}
+use mathlib.Core.List.{List, [], _∷_}
+use Prim.Native.Nat.{ℕ, _%_, _<_}
+use native.Mathlib.Omega.{arith}
+use lib.Dec.{eqb}
+use lib.ListN.{getD}
+use borrow.Author.Tests.{eqb-true, not-true}
+use Rattle.bits.specs.Choice.{pick}
+use Rattle.bits.specs.Bits.{bit, only, nibble, join}
+use Rattle.bits.proofs.Logic.{and-left, and-right, and-both}
+use Rattle.bits.proofs.Halves.{flags-high, join-low, join-three, low-three, again-byte}
+use Rattle.kinds.specs.declared.types.Kind.{Kind}
+use Rattle.kinds.specs.declared.types.Kind.the-variants.{Cooling, Temperature, Voltage, Current}
+use Rattle.kinds.specs.declared.settings.Settings.{Settings}
+use Rattle.kinds.specs.declared.control.Control.{Control}
+use Rattle.kinds.specs.Settings.{fanSettings, sensorSettings, settingsOf, fanBytes, sensorBytes, settingsBytes, fanClear, sensorClear, requestsClear, speedFormed, settingsFormed}
+use Rattle.kinds.specs.Control.{selected, unselected, asking, controlOf, speedAfter, actedOn, acted}
+
+-- ON and SPEED, which fans alone have, are as a sensor's bytes say them
+abbrev pub Fanless : Settings → Type 0
+Fanless s = (s .on ≡ false) × (s .speed ≡ 0)
+
+-- the type's four bytes have a place for every field
+abbrev pub Storable : Kind → Settings → Type 0
+Storable Cooling s = s .speed < 8
+Storable Temperature s = Fanless s
+Storable Voltage s = Fanless s
+Storable Current s = Fanless s
+
+-- the settings are read whatever else stands in the low halves of bytes 0 and 1, in byte 2, and in bit 4 of a fan's byte 3 or all of
+-- a sensor's: a status element has them in the same places
+pub fan-back : (s : Settings) (m l c : ℕ) (o : Bool) → s .speed < 8
+    → let a : ℕ = join (nibble false (s .prdfail) (s .disabled) (s .swap)) m in
+    let b : ℕ = join (nibble (s .ident) false false false) l in
+    let d : ℕ = join (nibble false (s .fail) (s .on) o) (s .speed % 8) in fanSettings (a ∷ b ∷ c ∷ d ∷ []) ≡ s
+fan-back s m l c o h =
+    let x = flags-high false (s .prdfail) (s .disabled) (s .swap) m in
+    let y = flags-high (s .ident) false false false l in
+    let z = flags-high false (s .fail) (s .on) o (s .speed % 8) in
+    let n : join (nibble false (s .fail) (s .on) o) (s .speed % 8) % 8 ≡ s .speed = join-three _ (s .speed) ∙ omega arith in
+    λ i. record { prdfail = x .1 i; disabled = x .2 i; swap = x .3 i; ident = y .0 i; fail = z .1 i; on = z .2 i; speed = n i }
+
+pub sensor-back : (s : Settings) (m l : ℕ) (e : List ℕ) → Fanless s
+    → sensorSettings (join (nibble false (s .prdfail) (s .disabled) (s .swap)) m ∷ join (nibble (s .ident) (s .fail) false false) l ∷ e) ≡ s
+sensor-back s m l e h =
+    let x = flags-high false (s .prdfail) (s .disabled) (s .swap) m in
+    let y = flags-high (s .ident) (s .fail) false false l in
+    λ i. record {
+      prdfail = x .1 i;
+      disabled = x .2 i;
+      swap = x .3 i;
+      ident = y .0 i;
+      fail = y .1 i;
+      on = sym (h .0) i;
+      speed = sym (h .1) i;
+    }
+
+-- stored settings are read back
+pub settings-back : (k : Kind) (s : Settings) → Storable k s → settingsOf k (settingsBytes k s) ≡ s
+unfolding settingsOf settingsBytes
+settings-back Cooling s h = fan-back s 0 0 0 false h
+settings-back Temperature s h = sensor-back s 0 0 (0 ∷ 0 ∷ []) h
+settings-back Voltage s h = sensor-back s 0 0 (0 ∷ 0 ∷ []) h
+settings-back Current s h = sensor-back s 0 0 (0 ∷ 0 ∷ []) h
+
+pub settings-storable : (k : Kind) (e : List ℕ) → Storable k (settingsOf k e)
+unfolding settingsOf
+settings-storable Cooling e = omega arith
+settings-storable Temperature e = (refl, refl)
+settings-storable Voltage e = (refl, refl)
+settings-storable Current e = (refl, refl)
+
+pub four : {a b c d p q r s : ℕ} → a ≡ p → b ≡ q → c ≡ r → d ≡ s → _≡_ {A = List ℕ} (a ∷ b ∷ c ∷ d ∷ []) (p ∷ q ∷ r ∷ s ∷ [])
+four x y z w = λ i. x i ∷ y i ∷ z i ∷ w i ∷ []
+
+first-again : (a : ℕ) → a < 256 → only (6 ∷ 5 ∷ 4 ∷ []) a ≡ true → join (nibble false (bit 6 a) (bit 5 a) (bit 4 a)) 0 ≡ a
+first-again = again-byte (6 ∷ 5 ∷ 4 ∷ []) (λ a. join (nibble false (bit 6 a) (bit 5 a) (bit 4 a)) 0) refl
+
+pub ident-fail-again : (b : ℕ) → b < 256 → only (7 ∷ 6 ∷ []) b ≡ true → join (nibble (bit 7 b) (bit 6 b) false false) 0 ≡ b
+ident-fail-again = again-byte (7 ∷ 6 ∷ []) (λ b. join (nibble (bit 7 b) (bit 6 b) false false) 0) refl
+
+speed-again : (d : ℕ) → d < 256 → only (6 ∷ 5 ∷ 2 ∷ 1 ∷ 0 ∷ []) d ≡ true → join (nibble false (bit 6 d) (bit 5 d) false) (d % 8 % 8) ≡ d
+speed-again = again-byte (6 ∷ 5 ∷ 2 ∷ 1 ∷ 0 ∷ []) (λ d. join (nibble false (bit 6 d) (bit 5 d) false) (d % 8 % 8)) refl
+
+module _ (a b c d : ℕ) (ha : a < 256) (hb : b < 256) (hd : d < 256) (f : only (6 ∷ 5 ∷ 4 ∷ []) a ≡ true) where
+  fan-again : fanClear (a ∷ b ∷ c ∷ d ∷ []) ≡ true → fanBytes (fanSettings (a ∷ b ∷ c ∷ d ∷ [])) ≡ a ∷ b ∷ c ∷ d ∷ []
+  fan-again t =
+      let y = only (7 ∷ []) b in
+      let z = only (6 ∷ 5 ∷ 2 ∷ 1 ∷ 0 ∷ []) d in
+      let u = and-left (y && eqb c 0) z t in
+      four (first-again a ha f)
+      (again-byte (7 ∷ []) (λ b. join (nibble (bit 7 b) false false false) 0) refl b hb (and-left y (eqb c 0) u))
+      (sym (eqb-true c 0 (and-right y (eqb c 0) u)))
+      (speed-again d hd (and-right (y && eqb c 0) z t))
+
+  sensor-again : sensorClear (a ∷ b ∷ c ∷ d ∷ []) ≡ true → sensorBytes (sensorSettings (a ∷ b ∷ c ∷ d ∷ [])) ≡ a ∷ b ∷ c ∷ d ∷ []
+  sensor-again t =
+      let y = only (7 ∷ 6 ∷ []) b in
+      let u = and-left (y && eqb c 0) (eqb d 0) t in
+      four (first-again a ha f)
+      (ident-fail-again b hb (and-left y (eqb c 0) u))
+      (sym (eqb-true c 0 (and-right y (eqb c 0) u)))
+      (sym (eqb-true d 0 (and-right (y && eqb c 0) (eqb d 0) t)))
+
+  kind-again : (k : Kind) → requestsClear k (a ∷ b ∷ c ∷ d ∷ []) ≡ true
+      → settingsBytes k (settingsOf k (a ∷ b ∷ c ∷ d ∷ [])) ≡ a ∷ b ∷ c ∷ d ∷ []
+  unfolding settingsBytes settingsOf requestsClear
+  kind-again Cooling t = fan-again t
+  kind-again Temperature t = sensor-again t
+  kind-again Voltage t = sensor-again t
+  kind-again Current t = sensor-again t
+
+-- four bytes that are settings of the type are those that store what they say
+pub settings-again : (k : Kind) (a b c d : ℕ) → a < 256 → b < 256 → c < 256 → d < 256 → settingsFormed k (a ∷ b ∷ c ∷ d ∷ []) ≡ true
+    → settingsBytes k (settingsOf k (a ∷ b ∷ c ∷ d ∷ [])) ≡ a ∷ b ∷ c ∷ d ∷ []
+unfolding settingsFormed
+settings-again k a b c d ha hb hc hd t =
+    let e : List ℕ = a ∷ b ∷ c ∷ d ∷ [] in
+    let f = only (6 ∷ 5 ∷ 4 ∷ []) a in
+    let u = and-left (f && requestsClear k e) (speedFormed k e) t in
+    kind-again a b c d ha hb hd (and-left f (requestsClear k e) u) k (and-right f (requestsClear k e) u)
+
+speed-small : (a b : ℕ) → a < 8 → b < 8 → speedAfter a b < 8
+speed-small a b h l = go (eqb a 0)
+  where
+    go : (t : Bool) → pick t b a < 8
+    go true = l
+    go false = h
+
+speed-none : (a b : ℕ) → a ≡ 0 → b ≡ 0 → speedAfter a b ≡ 0
+speed-none a b p q = rw (p, q)
+
+speed-kept : (a b : ℕ) → eqb b 0 ≡ false → eqb (speedAfter a b) 0 ≡ false
+speed-kept a b h = go (eqb a 0) refl
+  where
+    go : (t : Bool) → eqb a 0 ≡ t → eqb (pick t b a) 0 ≡ false
+    go true e = h
+    go false e = e
+
+asked-storable : (k : Kind) (r s : Settings) → Storable k r → Storable k s → Storable k (actedOn (asking r) s)
+asked-storable Cooling r s h l = speed-small (r .speed) (s .speed) h l
+asked-storable Temperature r s h l = (h .0, speed-none (r .speed) (s .speed) (h .1) (l .1))
+asked-storable Voltage r s h l = (h .0, speed-none (r .speed) (s .speed) (h .1) (l .1))
+asked-storable Current r s h l = (h .0, speed-none (r .speed) (s .speed) (h .1) (l .1))
+
+-- what a control element makes of settings that can be stored can be stored
+pub acted-storable : (k : Kind) (c : List ℕ) (s : Settings) → Storable k s → Storable k (acted (controlOf k c) s)
+unfolding acted controlOf
+acted-storable k c s h = go (selected c)
+  where
+    go : (t : Bool) → Storable k (acted (pick t (asking (settingsOf k c)) unselected) s)
+    go true = asked-storable k (settingsOf k c) s (settings-storable k c) h
+    go false = h
+
+-- the bytes that flags and a speed make have no other bit
+first-only : (a b c : Bool) → only (6 ∷ 5 ∷ 4 ∷ []) (join (nibble false a b c) 0) ≡ true
+first-only a b c =
+    let h = flags-high false a b c 0 in
+    let l = join-low (nibble false a b c) 0 in rw (h .0, l .0, l .1, l .2, l .3)
+
+pub ident-fail-only : (i f : Bool) → only (7 ∷ 6 ∷ []) (join (nibble i f false false) 0) ≡ true
+ident-fail-only i f =
+    let h = flags-high i f false false 0 in
+    let l = join-low (nibble i f false false) 0 in rw (h .2, h .3, l .0, l .1, l .2, l .3)
+
+ident-only : (i : Bool) → only (7 ∷ []) (join (nibble i false false false) 0) ≡ true
+ident-only true = refl
+ident-only false = refl
+
+speed-only : (f o : Bool) (n : ℕ) → only (6 ∷ 5 ∷ 2 ∷ 1 ∷ 0 ∷ []) (join (nibble false f o false) (n % 8)) ≡ true
+speed-only f o n =
+    let h = flags-high false f o false (n % 8) in
+    let l = join-low (nibble false f o false) (n % 8) in rw (h .0, h .3, l .0, low-three n)
+
+first-clear : (k : Kind) (s : Settings) → only (6 ∷ 5 ∷ 4 ∷ []) (getD (settingsBytes k s) 0 0) ≡ true
+unfolding settingsBytes
+first-clear Cooling s = first-only (s .prdfail) (s .disabled) (s .swap)
+first-clear Temperature s = first-only (s .prdfail) (s .disabled) (s .swap)
+first-clear Voltage s = first-only (s .prdfail) (s .disabled) (s .swap)
+first-clear Current s = first-only (s .prdfail) (s .disabled) (s .swap)
+
+sensor-clear : (s : Settings) → sensorClear (sensorBytes s) ≡ true
+sensor-clear s = and-both (and-both (ident-fail-only (s .ident) (s .fail)) refl) refl
+
+rest-clear : (k : Kind) (s : Settings) → requestsClear k (settingsBytes k s) ≡ true
+unfolding settingsBytes requestsClear
+rest-clear Cooling s = and-both (and-both (ident-only (s .ident)) refl) (speed-only (s .fail) (s .on) (s .speed))
+rest-clear Temperature s = sensor-clear s
+rest-clear Voltage s = sensor-clear s
+rest-clear Current s = sensor-clear s
+
+acted-kept : (c : Control) (s : Settings) → eqb (s .speed) 0 ≡ false → eqb (acted c s .speed) 0 ≡ false
+unfolding acted
+acted-kept c s h = go (c .select)
+  where
+    go : (t : Bool) → eqb (pick t (actedOn c s) s .speed) 0 ≡ false
+    go true = speed-kept (c .speed) (s .speed) h
+    go false = h
+
+acted-speed : (k : Kind) (c e : List ℕ) → speedFormed k e ≡ true
+    → speedFormed k (settingsBytes k (acted (controlOf k c) (settingsOf k e))) ≡ true
+unfolding settingsBytes speedFormed
+acted-speed Cooling c e t =
+    let s = settingsOf Cooling e in
+    let r = acted (controlOf Cooling c) s in
+    let l : r .speed < 8 = acted-storable Cooling c s (settings-storable Cooling e) in
+    let n : join (nibble false (r .fail) (r .on) false) (r .speed % 8) % 8 ≡ r .speed = join-three _ (r .speed) ∙ omega arith in
+    rw (n, acted-kept (controlOf Cooling c) s (nonzero t))
+  where
+    nonzero : not (eqb (getD e 3 0 % 8) 0) ≡ true → eqb (settingsOf Cooling e .speed) 0 ≡ false
+    nonzero t = unfold settingsOf in not-true (eqb (getD e 3 0 % 8) 0) t
+acted-speed Temperature c e t = refl
+acted-speed Voltage c e t = refl
+acted-speed Current c e t = refl
+
+-- what a control element makes of settings that a type may have are again such
+pub acted-formed : (k : Kind) (c e : List ℕ) → settingsFormed k e ≡ true
+    → settingsFormed k (settingsBytes k (acted (controlOf k c) (settingsOf k e))) ≡ true
+unfolding settingsFormed
+acted-formed k c e t =
+    let s = acted (controlOf k c) (settingsOf k e) in
+    and-both (and-both (first-clear k s) (rest-clear k s))
+    (acted-speed k c e (and-right (only (6 ∷ 5 ∷ 4 ∷ []) (getD e 0 0) && requestsClear k e) (speedFormed k e) t))

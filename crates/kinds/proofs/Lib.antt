@@ -1,4 +1,4 @@
 pub mod Arms
-pub mod Scaled
+pub mod Signed
 pub mod SettingsBack
 pub mod StatusBack

@@ -1,9 +1,13 @@
 -- Verdicts: the status code and the four limit bits, from reading, nominal and thresholds. Assumes nothing.
 use mathlib.Core.Bool.{Bool, true, false, not, _&&_, _||_}
 use mathlib.Core.List.{List}
-use Prim.Native.Nat.{ℕ, _+_, _*_, _%_}
+use Prim.Native.Nat.{ℕ, _*_}
 use lib.Dec.{eqb, ltb}
+use lib.IntN.{ℤ, pos, _-ℤ_, _*ℤ_}
 use lib.ListN.{getD}
+use lib.Signed.{ltZ}
+use mir.Syntax.{w16}
+use mir.Val.{toZ}
 use Rattle.bits.specs.Choice.{pick}
 use Rattle.kinds.specs.declared.types.Kind.{Kind}
 use Rattle.kinds.specs.declared.types.Kind.the-variants.{Cooling, Temperature, Voltage, Current}
@@ -28,17 +32,17 @@ above r h = not (eqb h 0) && ltb h r
 abbrev pub below : ℕ → ℕ → Bool
 below r l = not (eqb l 0) && ltb r l
 
--- the signed number that 16 bits of two's complement say, plus 32,768
-abbrev pub lifted : ℕ → ℕ
-lifted v = (v + 32768) % 65536
+-- the signed number that the 16 bits of a voltage or current say
+abbrev pub signed : ℕ → ℤ
+signed v = toZ w16 v
 
--- 200 × (V − N) > N × h, with each term on the side where it is added
-abbrev pub over : ℕ → ℕ → ℕ → Bool
-over v n h = not (eqb h 0) && ltb (n * h + 200 * (n + 32768)) (200 * lifted v)
+-- 200 × (V − N) > N × h
+unfoldable pub over : ℕ → ℕ → ℕ → Bool
+over v n h = not (eqb h 0) && ltZ (pos (n * h)) (pos 200 *ℤ (signed v -ℤ pos n))
 
--- 200 × (N − V) > N × l, likewise
-abbrev pub under : ℕ → ℕ → ℕ → Bool
-under v n l = not (eqb l 0) && ltb (n * l + 200 * lifted v) (200 * (n + 32768))
+-- 200 × (N − V) > N × l
+unfoldable pub under : ℕ → ℕ → ℕ → Bool
+under v n l = not (eqb l 0) && ltZ (pos (n * l)) (pos 200 *ℤ (pos n -ℤ signed v))
 
 -- a fan is 2 if ON and its reading is 0, else 1
 abbrev pub fanVerdict : Bool → ℕ → Verdict

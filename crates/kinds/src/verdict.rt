@@ -1,7 +1,8 @@
 // What follows from a reading: the status code and the four limit bits.
 use crate::types::Kind;
 ghost use mathlib.Core.Path.{_≡_};
-ghost use Rattle.kinds.specs.Verdict.{codeFor, unlimited, judged, above, below, lifted, over, under, fanVerdict, temperatureVerdict, voltageVerdict, currentVerdict, verdictOf};
+ghost use Prim.Native.Nat.{_+_, _%_};
+ghost use Rattle.kinds.specs.Verdict.{codeFor, unlimited, judged, above, below, over, under, fanVerdict, temperatureVerdict, voltageVerdict, currentVerdict, verdictOf};
 
 // The limit bits stand in the order of the thresholds.
 pub struct Verdict {
@@ -75,9 +76,9 @@ fn below(reading: u16, limit: u8) -> bool
     (limit != 0) & (reading < limit as u16)
 }
 
-// A signed reading moved up by 32,768, so that nothing is below 0.
+// A signed reading plus 32,768, so that no number is below 0.
 fn lifted(reading: u16) -> u32
-    ensures { λ r. ⌜ r ≡ lifted reading ⌝ }
+    ensures { λ r. ⌜ r ≡ (reading + 32768) % 65536 ⌝ }
 {
     (reading as u32 + 32768) % 65536
 }

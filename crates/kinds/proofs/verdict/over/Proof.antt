@@ -1,6 +1,8 @@
 -- `kinds::verdict::over` meets its contract. Assumes nothing.
+use Prim.Native.Nat.{_*_}
+use Rattle.kinds.proofs.Signed.{scaled, over-moved}
+use Rattle.kinds.specs.Verdict.{over}
 use native.Mathlib.Omega.{arith}
-use Rattle.kinds.proofs.Scaled.{scaled}
 use borrow.Author.Needs.{needs}
 use Rattle.kinds.proofs.verdict.over.Statement.{statement}
 use Rattle.kinds.proofs.verdict.over.Tie as tie
@@ -24,7 +26,8 @@ mul-result-3 : tie.Need-mul-result-3
 mul-result-3 c = search needs
 
 returns : tie.Need-returns
-returns c = rw (c .lifted .ensures)
+unfolding over
+returns c = let s = c .before .args in rw (c .lifted .ensures, ← (over-moved (s .reading) (s .nominal) (s .nominal * s .limit) (c .before .fits .reading .fits)))
 
 pub over-spec : {M : Type 1} → statement M
 over-spec =

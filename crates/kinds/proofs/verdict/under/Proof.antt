@@ -1,6 +1,8 @@
 -- `kinds::verdict::under` meets its contract. Assumes nothing.
+use Prim.Native.Nat.{_*_}
+use Rattle.kinds.proofs.Signed.{scaled, under-moved}
+use Rattle.kinds.specs.Verdict.{under}
 use native.Mathlib.Omega.{arith}
-use Rattle.kinds.proofs.Scaled.{scaled}
 use borrow.Author.Needs.{needs}
 use Rattle.kinds.proofs.verdict.under.Statement.{statement}
 use Rattle.kinds.proofs.verdict.under.Tie as tie
@@ -24,7 +26,8 @@ mul-result-3 : tie.Need-mul-result-3
 mul-result-3 c = search needs
 
 returns : tie.Need-returns
-returns c = rw (c .lifted .ensures)
+unfolding under
+returns c = let s = c .before .args in rw (c .lifted .ensures, ← (under-moved (s .reading) (s .nominal) (s .nominal * s .limit) (c .before .fits .reading .fits)))
 
 pub under-spec : {M : Type 1} → statement M
 under-spec =

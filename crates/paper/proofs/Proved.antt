@@ -1,0 +1,12 @@
+-- Every case of the table holds: antt computes what the definitions give, and it is what document 01 tells. Assumes nothing.
+use mathlib.Core.Path.{_≡_, refl}
+use mathlib.Core.List.{map}
+use Rattle.kinds.specs.Settings.{settingsOf, settingsBytes}
+use Rattle.kinds.specs.Control.{controlOf, acted}
+use Rattle.kinds.specs.Verdict.{over, under, verdictOf}
+use Rattle.kinds.specs.Status.{isOff, shownBy, statusBytes}
+use Rattle.paper.specs.Table.{given, told, table}
+
+pub proved : map given table ≡ map told table
+unfolding settingsOf settingsBytes controlOf acted over under verdictOf isOff shownBy statusBytes
+proved = refl

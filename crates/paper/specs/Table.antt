@@ -1,0 +1,93 @@
+-- The cases that document 01 marks M, as far as one element tells them. Assumes nothing.
+use mathlib.Core.Bool.{false}
+use mathlib.Core.List.{List, [], _∷_}
+use Prim.Native.Nat.{ℕ}
+use Rattle.bits.specs.Bits.{num}
+use Rattle.kinds.specs.declared.types.Kind.{Kind}
+use Rattle.kinds.specs.declared.types.Kind.the-variants.{Cooling, Temperature, Voltage, Current}
+use Rattle.kinds.specs.declared.verdict.Verdict.{Verdict}
+use Rattle.kinds.specs.Settings.{settingsOf, settingsBytes}
+use Rattle.kinds.specs.Control.{controlOf, acted}
+use Rattle.kinds.specs.Verdict.{verdictOf}
+use Rattle.kinds.specs.Status.{shownBy, statusBytes}
+
+pub data Case : Type 0 where
+  -- an element of the type with these settings, reading, nominal and thresholds shows these bytes
+  shows : Kind → List ℕ → ℕ → ℕ → List ℕ → List ℕ → Case
+  -- reading, nominal and thresholds of a sensor give this code and these limit bits, in the order of the thresholds
+  judges : Kind → ℕ → ℕ → List ℕ → List ℕ → Case
+  -- a control element takes these settings to those
+  acts : Kind → List ℕ → List ℕ → List ℕ → Case
+
+abbrev pub limits : Verdict → List ℕ
+limits v = v .code ∷ num (v .highcrit) ∷ num (v .highwarn) ∷ num (v .lowwarn) ∷ num (v .lowcrit) ∷ []
+
+-- what the definitions give
+abbrev pub given : Case → List ℕ
+given (shows k s r n t b) = statusBytes k (shownBy k (settingsOf k s) r n t)
+given (judges k r n t v) = limits (verdictOf k false r n t)
+given (acts k c s w) = settingsBytes k (acted (controlOf k c) (settingsOf k s))
+
+-- what document 01 tells
+abbrev pub told : Case → List ℕ
+told (shows k s r n t b) = b
+told (judges k r n t v) = v
+told (acts k c s w) = w
+
+-- no limit trips; the high critical one does; the high warning one does
+abbrev fine : List ℕ
+fine = 1 ∷ 0 ∷ 0 ∷ 0 ∷ 0 ∷ []
+
+abbrev highCritical : List ℕ
+highCritical = 2 ∷ 1 ∷ 0 ∷ 0 ∷ 0 ∷ []
+
+abbrev highWarning : List ℕ
+highWarning = 3 ∷ 0 ∷ 1 ∷ 0 ∷ 0 ∷ []
+
+abbrev none : List ℕ
+none = 0 ∷ 0 ∷ 0 ∷ 0 ∷ []
+
+-- high critical h alone, and high warning h alone
+abbrev critical : ℕ → List ℕ
+critical h = h ∷ 0 ∷ 0 ∷ 0 ∷ []
+
+abbrev warning : ℕ → List ℕ
+warning h = 0 ∷ h ∷ 0 ∷ 0 ∷ []
+
+-- a fan that is ON, at this speed
+abbrev on : ℕ → List ℕ
+on n = 0 ∷ 0 ∷ 0 ∷ n ∷ []
+
+abbrev pub table : List Case
+table =
+    -- fans of A: ON, SPEED 3, reading 120
+    shows Cooling (on 0x23) 120 0 none (0x01 ∷ 0x00 ∷ 0x78 ∷ 0x23 ∷ [])
+    -- wanted SPEED 5
+    ∷ acts Cooling (0x80 ∷ 0x00 ∷ 0x00 ∷ 0x25 ∷ []) (on 0x23) (on 0x25)
+    -- stored speeds 3, 4, 5, wanted IDENT on all
+    ∷ acts Cooling (0x80 ∷ 0x80 ∷ 0x00 ∷ 0x20 ∷ []) (on 0x23) (0x00 ∷ 0x80 ∷ 0x00 ∷ 0x23 ∷ [])
+    ∷ acts Cooling (0x80 ∷ 0x80 ∷ 0x00 ∷ 0x20 ∷ []) (on 0x24) (0x00 ∷ 0x80 ∷ 0x00 ∷ 0x24 ∷ [])
+    ∷ acts Cooling (0x80 ∷ 0x80 ∷ 0x00 ∷ 0x20 ∷ []) (on 0x25) (0x00 ∷ 0x80 ∷ 0x00 ∷ 0x25 ∷ [])
+    -- the first fan has SWAP, wanted cleared
+    ∷ acts Cooling (0x90 ∷ 0x00 ∷ 0x00 ∷ 0x20 ∷ []) (0x10 ∷ 0x00 ∷ 0x00 ∷ 0x23 ∷ []) (on 0x23)
+    -- wanted equal to stored: no SELECT
+    ∷ acts Cooling none (on 0x23) (on 0x23)
+    -- a fan ON with reading 0: code 2
+    ∷ shows Cooling (on 0x23) 0 0 none (0x02 ∷ 0x00 ∷ 0x00 ∷ 0x23 ∷ [])
+    -- temperature byte 64 with high warning 64, and byte 65
+    ∷ judges Temperature 64 0 (warning 64) fine
+    ∷ judges Temperature 65 0 (warning 64) highWarning
+    ∷ shows Temperature none 65 0 (warning 64) (0x03 ∷ 0x00 ∷ 0x41 ∷ 0x04 ∷ [])
+    -- N 1,200, high critical 20
+    ∷ judges Voltage 1320 1200 (critical 20) fine
+    ∷ judges Voltage 1321 1200 (critical 20) highCritical
+    ∷ judges Current 1320 1200 (critical 20) fine
+    ∷ judges Current 1321 1200 (critical 20) highCritical
+    -- N 350, high warning 5
+    ∷ judges Voltage 358 350 (warning 5) fine
+    ∷ judges Voltage 359 350 (warning 5) highWarning
+    ∷ judges Current 358 350 (warning 5) fine
+    ∷ judges Current 359 350 (warning 5) highWarning
+    -- V −1, N 1,200, low critical 20: CRIT UNDER, bytes FF FF
+    ∷ shows Voltage none 0xffff 1200 (0 ∷ 0 ∷ 0 ∷ 20 ∷ []) (0x02 ∷ 0x01 ∷ 0xff ∷ 0xff ∷ [])
+    ∷ []

@@ -1,4 +1,2 @@
 pub mod Arms
-pub mod Signed
-pub mod SettingsBack
-pub mod StatusBack
+pub mod Back

@@ -1,9 +1,6 @@
-// One element by value: its type, settings, control element, thresholds, verdict and status bytes.
+// The element types, and of one element by value what it is set to and what a control element makes of that.
 //
 // Every function takes any value and asks nothing of its caller.
 pub mod control;
 pub mod settings;
-pub mod status;
-pub mod thresholds;
 pub mod types;
-pub mod verdict;

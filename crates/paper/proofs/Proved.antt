@@ -3,8 +3,8 @@ use mathlib.Core.Path.{_≡_, refl}
 use mathlib.Core.List.{map}
 use Rattle.kinds.specs.Settings.{settingsOf, settingsBytes}
 use Rattle.kinds.specs.Control.{controlOf, acted}
-use Rattle.kinds.specs.Verdict.{over, under, verdictOf}
-use Rattle.kinds.specs.Status.{isOff, shownBy, statusBytes}
+use Rattle.verdicts.specs.Verdict.{over, under, verdictOf}
+use Rattle.shown.specs.Status.{isOff, shownBy, statusBytes}
 use Rattle.paper.specs.Table.{given, told, table}
 
 pub proved : map given table ≡ map told table

@@ -5,11 +5,11 @@ use Prim.Native.Nat.{ℕ}
 use Rattle.bits.specs.Bits.{num}
 use Rattle.kinds.specs.declared.types.Kind.{Kind}
 use Rattle.kinds.specs.declared.types.Kind.the-variants.{Cooling, Temperature, Voltage, Current}
-use Rattle.kinds.specs.declared.verdict.Verdict.{Verdict}
+use Rattle.verdicts.specs.declared.verdict.Verdict.{Verdict}
 use Rattle.kinds.specs.Settings.{settingsOf, settingsBytes}
 use Rattle.kinds.specs.Control.{controlOf, acted}
-use Rattle.kinds.specs.Verdict.{verdictOf}
-use Rattle.kinds.specs.Status.{shownBy, statusBytes}
+use Rattle.verdicts.specs.Verdict.{verdictOf}
+use Rattle.shown.specs.Status.{shownBy, statusBytes}
 
 pub data Case : Type 0 where
   -- an element of the type with these settings, reading, nominal and thresholds shows these bytes

@@ -6,7 +6,7 @@ use Prim.Native.Nat.{ℕ}
 use Rattle.kinds.specs.declared.types.Kind.{Kind}
 use Rattle.kinds.specs.Types.{readingAllowed, nominalAllowed}
 use Rattle.kinds.specs.Settings.{settingsFormed}
-use Rattle.kinds.specs.Thresholds.{had, ordered}
+use Rattle.verdicts.specs.Thresholds.{had, ordered}
 use Rattle.shelf.specs.Types.{kindAt}
 use Rattle.shelf.specs.Elements.{settingsAt, thresholdsAt, readingAt, nominalAt}
 use Rattle.shelf.specs.Formed.{spareClear, elementFormed}

@@ -3,8 +3,8 @@ use crate::elements;
 use crate::limits;
 use crate::types;
 use kinds::settings;
-use kinds::thresholds;
 use kinds::types::Kind;
+use verdicts::thresholds;
 ghost use mathlib.Core.Path.{_≡_};
 ghost use Rattle.shelf.specs.Formed.{headFormed, textByteFormed, textFormed, typeFormed, typeEmpty, slotFormed, typesFormed, sizeFormed, spareClear, elementFormed, elementsFormed, opened};
 

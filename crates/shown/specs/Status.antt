@@ -1,0 +1,158 @@
+-- Status elements: what an element shows, and the four bytes that show it. Assumes nothing.
+use mathlib.Core.Bool.{Bool, true, false, not, _&&_}
+use mathlib.Core.List.{List, [], _∷_}
+use Prim.Native.Nat.{ℕ, _+_, _*_, _/_, _%_}
+use lib.Dec.{eqb, leb}
+use lib.ListN.{getD}
+use Rattle.bits.specs.Bits.{bit, only, nibble, join}
+use Rattle.bits.specs.Numbers.{big, bytes}
+use Rattle.kinds.specs.declared.types.Kind.{Kind}
+use Rattle.kinds.specs.declared.types.Kind.the-variants.{Cooling, Temperature, Voltage, Current}
+use Rattle.kinds.specs.declared.settings.Settings.{Settings}
+use Rattle.verdicts.specs.declared.verdict.Verdict.{Verdict}
+use Rattle.shown.specs.declared.Shown.{Shown}
+use Rattle.kinds.specs.Types.{readingAllowed}
+use Rattle.kinds.specs.Settings.{settingsOf}
+use Rattle.verdicts.specs.Verdict.{unlimited, verdictOf}
+
+-- OFF is set exactly if ON is 0, and shown by fans alone
+unfoldable pub isOff : Kind → Bool → Bool
+isOff Cooling on = not on
+isOff Temperature on = false
+isOff Voltage on = false
+isOff Current on = false
+
+-- what an element with these settings, reading, nominal and thresholds shows
+unfoldable pub shownBy : Kind → Settings → ℕ → ℕ → List ℕ → Shown
+shownBy k s r n t = record { set = s; verdict = verdictOf k (s .on) r n t; reading = r; off = isOff k (s .on) }
+
+-- byte 0: bit 6 PRDFAIL, 5 DISABLED, 4 SWAP, bits 3 to 0 the status code
+abbrev pub firstByte : Shown → ℕ
+firstByte x = join (nibble false (x .set .prdfail) (x .set .disabled) (x .set .swap)) (x .verdict .code)
+
+-- byte 1: bit 7 IDENT, bits 2 to 0 the upper part of the speed; byte 2 its lower eight bits;
+-- byte 3: bit 6 FAIL, 5 RQSTED ON, 4 OFF, bits 2 to 0 the speed code
+abbrev pub fanStatus : Shown → List ℕ
+fanStatus x =
+    firstByte x
+    ∷ join (nibble (x .set .ident) false false false) (x .reading / 256 % 8)
+    ∷ x .reading % 256
+    ∷ join (nibble false (x .set .fail) (x .set .on) (x .off)) (x .set .speed % 8)
+    ∷ []
+
+-- byte 1: bits 7 and 6 IDENT, FAIL; byte 2 the reading; byte 3: bits 3 to 0 OT FAILURE, OT WARNING, UT FAILURE, UT WARNING
+abbrev pub temperatureStatus : Shown → List ℕ
+temperatureStatus x =
+    firstByte x
+    ∷ join (nibble (x .set .ident) (x .set .fail) false false) 0
+    ∷ x .reading % 256
+    ∷ nibble (x .verdict .highcrit) (x .verdict .highwarn) (x .verdict .lowcrit) (x .verdict .lowwarn)
+    ∷ []
+
+-- byte 1: bits 7, 6 as before, bits 3 to 0 WARN OVER, WARN UNDER, CRIT OVER, CRIT UNDER; bytes 2 and 3 the reading
+abbrev pub voltageStatus : Shown → List ℕ
+voltageStatus x =
+    firstByte x
+    ∷ join (nibble (x .set .ident) (x .set .fail) false false)
+    (nibble (x .verdict .highwarn) (x .verdict .lowwarn) (x .verdict .highcrit) (x .verdict .lowcrit))
+    ∷ bytes 2 (x .reading)
+
+-- the same without the two UNDER bits
+abbrev pub currentStatus : Shown → List ℕ
+currentStatus x =
+    firstByte x
+    ∷ join (nibble (x .set .ident) (x .set .fail) false false) (nibble (x .verdict .highwarn) false (x .verdict .highcrit) false)
+    ∷ bytes 2 (x .reading)
+
+unfoldable pub statusBytes : Kind → Shown → List ℕ
+statusBytes Cooling x = fanStatus x
+statusBytes Temperature x = temperatureStatus x
+statusBytes Voltage x = voltageStatus x
+statusBytes Current x = currentStatus x
+
+-- the code and the limit bits that four bytes show
+abbrev pub fanBits : List ℕ → Verdict
+fanBits e = unlimited (getD e 0 0 % 16)
+
+abbrev pub temperatureBits : List ℕ → Verdict
+temperatureBits e = record {
+  code = getD e 0 0 % 16;
+  highcrit = bit 3 (getD e 3 0);
+  highwarn = bit 2 (getD e 3 0);
+  lowwarn = bit 0 (getD e 3 0);
+  lowcrit = bit 1 (getD e 3 0);
+}
+
+abbrev pub voltageBits : List ℕ → Verdict
+voltageBits e = record {
+  code = getD e 0 0 % 16;
+  highcrit = bit 1 (getD e 1 0);
+  highwarn = bit 3 (getD e 1 0);
+  lowwarn = bit 2 (getD e 1 0);
+  lowcrit = bit 0 (getD e 1 0);
+}
+
+abbrev pub currentBits : List ℕ → Verdict
+currentBits e = record {
+  code = getD e 0 0 % 16;
+  highcrit = bit 1 (getD e 1 0);
+  highwarn = bit 3 (getD e 1 0);
+  lowwarn = false;
+  lowcrit = false;
+}
+
+unfoldable pub bitsOf : Kind → List ℕ → Verdict
+bitsOf Cooling e = fanBits e
+bitsOf Temperature e = temperatureBits e
+bitsOf Voltage e = voltageBits e
+bitsOf Current e = currentBits e
+
+unfoldable pub readingOf : Kind → List ℕ → ℕ
+readingOf Cooling e = getD e 1 0 % 8 * 256 + getD e 2 0
+readingOf Temperature e = getD e 2 0
+readingOf Voltage e = big (getD e 2 0 ∷ getD e 3 0 ∷ [])
+readingOf Current e = big (getD e 2 0 ∷ getD e 3 0 ∷ [])
+
+unfoldable pub offOf : Kind → List ℕ → Bool
+offOf Cooling e = bit 4 (getD e 3 0)
+offOf Temperature e = false
+offOf Voltage e = false
+offOf Current e = false
+
+-- what four bytes show
+unfoldable pub shownOf : Kind → List ℕ → Shown
+shownOf k e = record { set = settingsOf k e; verdict = bitsOf k e; reading = readingOf k e; off = offOf k e }
+
+-- codes 0 to 8
+abbrev pub codeAllowed : ℕ → Bool
+codeAllowed n = leb n 8
+
+-- bytes 1 to 3: every bit not named above is zero
+unfoldable pub restClear : Kind → List ℕ → Bool
+restClear Cooling e = only (7 ∷ 2 ∷ 1 ∷ 0 ∷ []) (getD e 1 0) && only (6 ∷ 5 ∷ 4 ∷ 2 ∷ 1 ∷ 0 ∷ []) (getD e 3 0)
+restClear Temperature e = only (7 ∷ 6 ∷ []) (getD e 1 0) && only (3 ∷ 2 ∷ 1 ∷ 0 ∷ []) (getD e 3 0)
+restClear Voltage e = only (7 ∷ 6 ∷ 3 ∷ 2 ∷ 1 ∷ 0 ∷ []) (getD e 1 0)
+restClear Current e = only (7 ∷ 6 ∷ 3 ∷ 1 ∷ []) (getD e 1 0)
+
+unfoldable pub statusClear : Kind → List ℕ → Bool
+statusClear k e = (only (6 ∷ 5 ∷ 4 ∷ 3 ∷ 2 ∷ 1 ∷ 0 ∷ []) (getD e 0 0) && codeAllowed (getD e 0 0 % 16)) && restClear k e
+
+-- in overall elements all but the code is zero
+unfoldable pub overallClear : List ℕ → Bool
+overallClear e = ((codeAllowed (getD e 0 0) && eqb (getD e 1 0) 0) && eqb (getD e 2 0) 0) && eqb (getD e 3 0) 0
+
+-- ON, OFF and a speed code are shown by fans alone, and limit bits where the type has the limit
+abbrev pub fanless : Shown → Bool
+fanless x = (not (x .set .on) && not (x .off)) && eqb (x .set .speed) 0
+
+unfoldable pub fieldsShown : Kind → Shown → Bool
+fieldsShown Cooling x =
+    leb (x .set .speed) 7
+    && ((not (x .verdict .highcrit) && not (x .verdict .highwarn)) && (not (x .verdict .lowwarn) && not (x .verdict .lowcrit)))
+fieldsShown Temperature x = fanless x
+fieldsShown Voltage x = fanless x
+fieldsShown Current x = fanless x && (not (x .verdict .lowwarn) && not (x .verdict .lowcrit))
+
+-- no field is out of range, or set where the type shows none
+unfoldable pub showable : Kind → Shown → Bool
+showable k x = (codeAllowed (x .verdict .code) && readingAllowed k (x .reading)) && fieldsShown k x

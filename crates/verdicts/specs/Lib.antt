@@ -1,0 +1,2 @@
+pub mod Thresholds
+pub mod Verdict

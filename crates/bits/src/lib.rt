@@ -23,22 +23,23 @@ pub fn join(high: u8, low: u8) -> u8
     (high & 15) << 4 | low & 15
 }
 
-pub fn byte_at(s: &[u8], at: usize) -> u8
+fn get(s: &[u8], k: usize) -> u8
+    ensures { λ r. ⌜ r ≡ getD (now (s .entry)) k 0 ⌝ }
+{
+    if k < s.len() { s[k] } else { 0 }
+}
+
+pub fn byte_at(s: &[u8], at: u32) -> u8
     ensures { λ r. ⌜ r ≡ getD (now (s .entry)) at 0 ⌝ }
 {
-    if at < s.len() { s[at] } else { 0 }
+    get(s, at as usize)
 }
 
 pub fn four_at(s: &[u8], at: u32) -> [u8; 4]
     ensures { λ r. ⌜ r ≡ fourAt (now (s .entry)) at ⌝ }
 {
     let k = at as usize;
-    [
-        byte_at(s, k),
-        byte_at(s, k + 1),
-        byte_at(s, k + 2),
-        byte_at(s, k + 3),
-    ]
+    [get(s, k), get(s, k + 1), get(s, k + 2), get(s, k + 3)]
 }
 
 pub fn put_four(s: &mut [u8], at: u32, f: [u8; 4])
@@ -57,7 +58,7 @@ pub fn big16_at(s: &[u8], at: u32) -> u16
     ensures { λ r. ⌜ r ≡ big (twoAt (now (s .entry)) at) ⌝ }
 {
     let k = at as usize;
-    (byte_at(s, k) as u16) * 256 + byte_at(s, k + 1) as u16
+    (get(s, k) as u16) * 256 + get(s, k + 1) as u16
 }
 
 pub fn big32_at(s: &[u8], at: u32) -> u32
@@ -65,5 +66,5 @@ pub fn big32_at(s: &[u8], at: u32) -> u32
 {
     let high = big16_at(s, at) as u32;
     let k = at as usize;
-    high * 65536 + (byte_at(s, k + 2) as u32) * 256 + byte_at(s, k + 3) as u32
+    high * 65536 + (get(s, k + 2) as u32) * 256 + get(s, k + 3) as u32
 }

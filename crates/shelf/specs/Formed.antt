@@ -11,7 +11,7 @@ use Rattle.verdicts.specs.Thresholds.{had, ordered}
 use Rattle.shelf.specs.declared.opening.Sizes.{Sizes}
 use Rattle.shelf.specs.declared.opening.Opened.{Opened}
 use Rattle.shelf.specs.declared.opening.Opened.the-variants.{Shelf, NotWellFormed}
-use Rattle.shelf.specs.Limits.{mostTypes, mostElements, mostInType, mostText, typeSize, typePlace, elementPlace}
+use Rattle.shelf.specs.Limits.{mostTypes, mostElements, mostInType, mostText, typeSize, typePlace, textPlace, elementPlace}
 use Rattle.shelf.specs.Types.{typesOf, typeCode, typeCount, textLength, elementsOf, kindAt}
 use Rattle.shelf.specs.Elements.{settingsAt, thresholdsAt, readingAt, nominalAt, spareAt}
 
@@ -27,7 +27,7 @@ headFormed s =
 -- a text of 0 to 32 bytes, each 20h to 7Eh, and zeros after its end
 abbrev pub textByteFormed : List ℕ → ℕ → ℕ → Bool
 textByteFormed s t i =
-    let b : ℕ = getD s (typePlace t + 4 + i) 0 in
+    let b : ℕ = getD s (textPlace t + i) 0 in
     pick (ltb i (textLength s t)) (leb 0x20 b && leb b 0x7e) (eqb b 0)
 
 unfoldable pub textFormed : List ℕ → ℕ → Bool

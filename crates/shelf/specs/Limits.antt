@@ -20,6 +20,9 @@ typeSize = 4 + mostText
 abbrev pub typePlace : ℕ → ℕ
 typePlace t = 44 + typeSize * t
 
+abbrev pub textPlace : ℕ → ℕ
+textPlace t = typePlace t + 4
+
 -- an element: settings 4, thresholds 4, reading 2, nominal 2, and four zero bytes
 abbrev pub elementPlace : ℕ → ℕ
 elementPlace j = typePlace mostTypes + 16 * j

@@ -1,33 +1,46 @@
 // The limits of a shelf record, and the places that follow from them. They stand here and nowhere else.
 ghost use mathlib.Core.Path.{_≡_};
-ghost use Rattle.shelf.specs.Limits.{typePlace, elementPlace};
+ghost use Rattle.shelf.specs.Limits.{typePlace, textPlace, elementPlace};
 
 pub const MOST_TYPES: u16 = 8;
 
+// In all, and in one type.
 pub const MOST_ELEMENTS: u16 = 64;
 
 pub const MOST_IN_TYPE: u8 = 64;
 
-pub const MOST_TEXT: u32 = 32;
+pub const MOST_TEXT: u16 = 32;
 
 pub const GENERATION: u32 = 0;
 
-pub const IDENTIFICATION: u32 = 4;
+pub const LOGICAL_IDENTIFIER: u32 = 4;
+
+pub const VENDOR: u32 = 12;
+
+pub const PRODUCT: u32 = 20;
+
+pub const REVISION: u32 = 36;
 
 pub const TYPES: u32 = 40;
 
 const FIRST_TYPE: u32 = 44;
 
-pub const TYPE_SIZE: u32 = 4 + MOST_TEXT;
+pub const TYPE_SIZE: u16 = 4 + MOST_TEXT;
 
-const FIRST_ELEMENT: u32 = FIRST_TYPE + TYPE_SIZE * 8;
+const FIRST_ELEMENT: u32 = FIRST_TYPE + TYPE_SIZE as u32 * MOST_TYPES as u32;
 
 const ELEMENT_SIZE: u32 = 16;
 
 pub fn type_place(t: u16) -> u32
     ensures { λ r. ⌜ r ≡ typePlace t ⌝ }
 {
-    FIRST_TYPE + TYPE_SIZE * t as u32
+    FIRST_TYPE + TYPE_SIZE as u32 * t as u32
+}
+
+pub fn text_place(t: u16) -> u32
+    ensures { λ r. ⌜ r ≡ textPlace t ⌝ }
+{
+    type_place(t) + 4
 }
 
 pub fn element_place(j: u16) -> u32

@@ -10,7 +10,7 @@ ghost use Rattle.shelf.specs.Formed.{headFormed, textByteFormed, textFor
 
 // How many types and elements a well-formed shelf has.
 pub struct Sizes {
-    pub types: u8,
+    pub types: u16,
     pub elements: u16,
 }
 
@@ -48,11 +48,11 @@ fn head_formed(shelf: &[u8]) -> bool
 }
 
 // A byte of type t's text is printable, or zero past the text's end.
-fn text_byte_formed(shelf: &[u8], t: u16, i: u32) -> bool
+fn text_byte_formed(shelf: &[u8], t: u16, i: u16) -> bool
     ensures { λ r. ⌜ r ≡ textByteFormed (now (shelf .entry)) t i ⌝ }
 {
-    let b = bits::byte_at(shelf, limits::type_place(t) as usize + 4 + i as usize);
-    if i < types::text_length(shelf, t) as u32 {
+    let b = bits::byte_at(shelf, limits::text_place(t) + i as u32);
+    if i < types::text_length(shelf, t) as u16 {
         (0x20 <= b) & (b <= 0x7e)
     } else {
         b == 0
@@ -62,7 +62,7 @@ fn text_byte_formed(shelf: &[u8], t: u16, i: u32) -> bool
 fn text_formed(shelf: &[u8], t: u16) -> bool
     ensures { λ r. ⌜ r ≡ textFormed (now (shelf .entry)) t ⌝ }
 {
-    let mut i: u32 = 0;
+    let mut i: u16 = 0;
     while i < limits::MOST_TEXT {
         if !text_byte_formed(shelf, t, i) {
             return false;
@@ -78,7 +78,7 @@ fn type_formed(shelf: &[u8], t: u16) -> bool
     let e = bits::four_at(shelf, limits::type_place(t));
     Kind::is_served(e[0])
         & (e[1] <= limits::MOST_IN_TYPE)
-        & (e[2] as u32 <= limits::MOST_TEXT)
+        & (e[2] as u16 <= limits::MOST_TEXT)
         & (e[3] == 0)
         & text_formed(shelf, t)
 }
@@ -87,9 +87,9 @@ fn type_formed(shelf: &[u8], t: u16) -> bool
 fn type_empty(shelf: &[u8], t: u16) -> bool
     ensures { λ r. ⌜ r ≡ typeEmpty (now (shelf .entry)) t ⌝ }
 {
-    let mut i: u32 = 0;
+    let mut i: u16 = 0;
     while i < limits::TYPE_SIZE {
-        if bits::byte_at(shelf, limits::type_place(t) as usize + i as usize) != 0 {
+        if bits::byte_at(shelf, limits::type_place(t) + i as u32) != 0 {
             return false;
         }
         i += 1;
@@ -97,17 +97,17 @@ fn type_empty(shelf: &[u8], t: u16) -> bool
     true
 }
 
-fn slot_formed(shelf: &[u8], n: u8, t: u16) -> bool
+fn slot_formed(shelf: &[u8], n: u16, t: u16) -> bool
     ensures { λ r. ⌜ r ≡ slotFormed (now (shelf .entry)) n t ⌝ }
 {
-    if t < n as u16 {
+    if t < n {
         type_formed(shelf, t)
     } else {
         type_empty(shelf, t)
     }
 }
 
-fn types_formed(shelf: &[u8], n: u8) -> bool
+fn types_formed(shelf: &[u8], n: u16) -> bool
     ensures { λ r. ⌜ r ≡ typesFormed (now (shelf .entry)) n ⌝ }
 {
     let mut t: u16 = 0;

@@ -5,29 +5,29 @@ ghost use mathlib.Core.Path.{_≡_};
 ghost use Rattle.shelf.specs.Types.{typeCode, typeCount, textLength, typesOf, elementsOf, typeOf, kindAt};
 
 // How many types the block says it has.
-pub fn count(shelf: &[u8]) -> u8
+pub fn count(shelf: &[u8]) -> u16
     ensures { λ r. ⌜ r ≡ typesOf (now (shelf .entry)) ⌝ }
 {
-    bits::byte_at(shelf, limits::TYPES as usize)
+    bits::byte_at(shelf, limits::TYPES) as u16
 }
 
 pub fn code_of(shelf: &[u8], t: u16) -> u8
     ensures { λ r. ⌜ r ≡ typeCode (now (shelf .entry)) t ⌝ }
 {
-    bits::byte_at(shelf, limits::type_place(t) as usize)
+    bits::byte_at(shelf, limits::type_place(t))
 }
 
 // How many elements type t has.
 pub fn elements_of(shelf: &[u8], t: u16) -> u8
     ensures { λ r. ⌜ r ≡ typeCount (now (shelf .entry)) t ⌝ }
 {
-    bits::byte_at(shelf, limits::type_place(t) as usize + 1)
+    bits::byte_at(shelf, limits::type_place(t) + 1)
 }
 
 pub fn text_length(shelf: &[u8], t: u16) -> u8
     ensures { λ r. ⌜ r ≡ textLength (now (shelf .entry)) t ⌝ }
 {
-    bits::byte_at(shelf, limits::type_place(t) as usize + 2)
+    bits::byte_at(shelf, limits::type_place(t) + 2)
 }
 
 // How many elements all types have.

@@ -77,7 +77,7 @@ fn below(reading: u16, limit: u8) -> bool
 }
 
 // A signed reading plus 32,768, so that no number is below 0.
-fn lifted(reading: u16) -> u32
+pub fn lifted(reading: u16) -> u32
     ensures { λ r. ⌜ r ≡ (reading + 32768) % 65536 ⌝ }
 {
     (reading as u32 + 32768) % 65536

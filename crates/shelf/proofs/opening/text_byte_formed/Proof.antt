@@ -6,17 +6,11 @@ use borrow.Author.Needs.{needs}
 use Rattle.shelf.proofs.opening.text_byte_formed.Statement.{statement}
 use Rattle.shelf.proofs.opening.text_byte_formed.Tie as tie
 
-type-place-requires : tie.Need-type-place-requires
-type-place-requires c κs = search needs
-
-cast-byte-at : tie.Need-cast-byte-at
-cast-byte-at c = search needs
+text-place-requires : tie.Need-text-place-requires
+text-place-requires c κs = search needs
 
 add-byte-at : tie.Need-add-byte-at
 add-byte-at c = search needs
-
-add-byte-at-2 : tie.Need-add-byte-at-2
-add-byte-at-2 c = search needs
 
 byte-at-requires : tie.Need-byte-at-requires
 byte-at-requires c κs = search needs
@@ -28,19 +22,17 @@ cast-if1 : tie.Need-cast-if1
 cast-if1 c = search needs
 
 returns : tie.Need-returns
-returns c = let s = c .before .before .before .before .before .args in rw (lt-ltb (s .i) (textLength (now (s .shelf)) (s .t)) (rw (c .before .text-length .ensures) at (c .if1 .taken)), c .before .before .byte-at .ensures, c .before .before .before .type-place .ensures)
+returns c = let s = c .before .before .before .before .before .args in rw (lt-ltb (s .i) (textLength (now (s .shelf)) (s .t)) (rw (c .before .text-length .ensures) at (c .if1 .taken)), c .before .before .byte-at .ensures, c .before .before .before .text-place .ensures)
 
 returns-2 : tie.Need-returns-2
-returns-2 c = let s = c .before .before .before .before .before .args in rw (le-ltb (s .i) (textLength (now (s .shelf)) (s .t)) (rw (c .before .text-length .ensures) at (c .if1 .left)), c .before .before .byte-at .ensures, c .before .before .before .type-place .ensures)
+returns-2 c = let s = c .before .before .before .before .before .args in rw (le-ltb (s .i) (textLength (now (s .shelf)) (s .t)) (rw (c .before .text-length .ensures) at (c .if1 .left)), c .before .before .byte-at .ensures, c .before .before .before .text-place .ensures)
 
 pub text-byte-formed-spec : {M : Type 1} → statement M
 text-byte-formed-spec =
     tie.close
     (tie.spec
-    type-place-requires
-    cast-byte-at
+    text-place-requires
     add-byte-at
-    add-byte-at-2
     byte-at-requires
     text-length-requires
     cast-if1

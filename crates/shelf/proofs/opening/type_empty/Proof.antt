@@ -31,9 +31,6 @@ type-place-requires c κs = search needs
 cast-byte-at : tie.Need-cast-byte-at Inv-loop μ-loop
 cast-byte-at c = search needs
 
-cast-byte-at-2 : tie.Need-cast-byte-at-2 Inv-loop μ-loop
-cast-byte-at-2 c = omega arith
-
 add-byte-at : tie.Need-add-byte-at Inv-loop μ-loop
 add-byte-at c = omega (arith, c .type-place .ensures)
 
@@ -66,7 +63,6 @@ type-empty-spec =
     loop-holds
     type-place-requires
     cast-byte-at
-    cast-byte-at-2
     add-byte-at
     byte-at-requires
     returns

@@ -14,10 +14,8 @@ pub fn show(shelf: &[u8], j: u16) {
     let nominal = elements::nominal_at(shelf, j);
     let t = elements::thresholds_at(shelf, j);
     let shown = Shown::by(kind, set, reading, nominal, t);
-    say::text(b"  element ");
-    say::number(j as u64);
-    say::text(b": code ");
-    say::number(shown.verdict.code as u64);
+    say::labelled(b"  element ", j as u64);
+    say::labelled(b": code ", shown.verdict.code as u64);
     say::text(b", ");
     match kind {
         Kind::Cooling => say_fan(shown),
@@ -33,8 +31,7 @@ fn say_fan(x: Shown) {
     say::text(b" rpm");
     say::flag(x.set.on, b"ON");
     say::flag(x.off, b"OFF");
-    say::text(b", speed ");
-    say::number(x.set.speed as u64);
+    say::labelled(b", speed ", x.set.speed as u64);
     say_flags(x.set);
 }
 
@@ -122,7 +119,6 @@ fn say_percent_limit(limit: u8) {
     if limit == 0 {
         say::text(b" -");
     } else {
-        say::text(b" ");
-        say::number(limit as u64);
+        say::labelled(b" ", limit as u64);
     }
 }

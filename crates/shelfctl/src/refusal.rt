@@ -3,8 +3,7 @@ use crate::say;
 use refusals::Refusal;
 
 pub fn say_refusal(r: Refusal) {
-    say::text(b"refusal ");
-    say::number(r.number() as u64);
+    say::labelled(b"refusal ", r.number() as u64);
     say::text(b": ");
     say_meaning(r);
     say::text(b"\n");

@@ -9,10 +9,14 @@ pub fn number(n: u64) {
     io::print_decimal(STDOUT_FILENO, n);
 }
 
-// A number of things, named by the word for one of them.
-pub fn count(n: u64, one: &[u8]) {
+pub fn labelled(words: &[u8], n: u64) {
+    text(words);
     number(n);
-    text(b" ");
+}
+
+// After a comma, a number of things, named by the word for one of them.
+pub fn count(n: u64, one: &[u8]) {
+    labelled(b", ", n);
     text(one);
     if n != 1 {
         text(b"s");
@@ -55,9 +59,10 @@ fn printable(b: u8) -> u8 {
     if (0x20 <= b) & (b <= 0x7e) { b } else { b'.' }
 }
 
-pub fn quoted_at(s: &[u8], at: u32, n: u16) {
+// The words, which end with a quotation mark, the text that stands at a place, and the closing mark.
+pub fn quoted_at(words: &[u8], s: &[u8], at: u32, n: u16) {
     let bytes = part(s, at, n);
-    text(b"\"");
+    text(words);
     let mut i = 0;
     while i < bytes.len() {
         text(&[printable(bytes[i])]);

@@ -12,24 +12,21 @@ pub fn contents(shelf: &[u8]) {
 }
 
 fn show_sizes(shelf: &[u8]) {
-    say::text(b"generation ");
-    say::number(bits::big32_at(shelf, limits::GENERATION) as u64);
-    say::text(b", ");
-    say::count(types::count(shelf) as u64, b"type");
-    say::text(b", ");
-    say::count(types::all_elements(shelf) as u64, b"element");
+    say::labelled(
+        b"generation ",
+        bits::big32_at(shelf, limits::GENERATION) as u64,
+    );
+    say::count(types::count(shelf) as u64, b" type");
+    say::count(types::all_elements(shelf) as u64, b" element");
     say::text(b"\n");
 }
 
 fn show_identification(shelf: &[u8]) {
     say::text(b"logical identifier ");
     say::hex_at(shelf, limits::LOGICAL_IDENTIFIER, 8);
-    say::text(b", vendor ");
-    say::quoted_at(shelf, limits::VENDOR, 8);
-    say::text(b", product ");
-    say::quoted_at(shelf, limits::PRODUCT, 16);
-    say::text(b", revision ");
-    say::quoted_at(shelf, limits::REVISION, 4);
+    say::quoted_at(b", vendor \"", shelf, limits::VENDOR, 8);
+    say::quoted_at(b", product \"", shelf, limits::PRODUCT, 16);
+    say::quoted_at(b", revision \"", shelf, limits::REVISION, 4);
     say::text(b"\n");
 }
 
@@ -44,30 +41,22 @@ fn show_types(shelf: &[u8]) {
 
 fn show_type(shelf: &[u8], t: u16) {
     let code = types::code_of(shelf, t);
-    say::text(b"type ");
-    say::number(t as u64);
-    say::text(b": ");
+    let length = types::text_length(shelf, t) as u16;
+    say::labelled(b"type ", t as u64);
     say_kind(Kind::of(code));
-    say::text(b" (");
     say::hex(code);
-    say::text(b"h) ");
-    say::quoted_at(
-        shelf,
-        limits::text_place(t),
-        types::text_length(shelf, t) as u16,
-    );
-    say::text(b", ");
-    say::count(types::elements_of(shelf, t) as u64, b"element");
+    say::quoted_at(b"h) \"", shelf, limits::text_place(t), length);
+    say::count(types::elements_of(shelf, t) as u64, b" element");
     say::text(b"\n");
     show_elements(shelf, t);
 }
 
 fn say_kind(kind: Kind) {
     match kind {
-        Kind::Cooling => say::text(b"Cooling"),
-        Kind::Temperature => say::text(b"Temperature Sensor"),
-        Kind::Voltage => say::text(b"Voltage Sensor"),
-        Kind::Current => say::text(b"Current Sensor"),
+        Kind::Cooling => say::text(b": Cooling ("),
+        Kind::Temperature => say::text(b": Temperature Sensor ("),
+        Kind::Voltage => say::text(b": Voltage Sensor ("),
+        Kind::Current => say::text(b": Current Sensor ("),
     }
 }
 

@@ -7,16 +7,13 @@ use Rattle.shelfctl.proofs.say.quoted_at.Statement.{statement}
 use Rattle.shelfctl.proofs.say.quoted_at.Tie as tie
 
 abbrev Inv-loop : tie.InvT-loop
-Inv-loop s at n bytes i₀ t7 i = i ≤ length bytes
+Inv-loop words s at n bytes i₀ t7 i = i ≤ length bytes
 
 abbrev μ-loop : tie.MeasureT-loop
-μ-loop s at n bytes i₀ t7 i = length bytes - i
+μ-loop words s at n bytes i₀ t7 i = length bytes - i
 
 part-requires : tie.Need-part-requires Inv-loop μ-loop
 part-requires c κs = search needs
-
-slice-aggregate-text : tie.Need-slice-aggregate-text Inv-loop μ-loop
-slice-aggregate-text c = search needs
 
 text-requires : tie.Need-text-requires Inv-loop μ-loop
 text-requires c κs = search needs
@@ -30,8 +27,8 @@ shared-slice-read-printable c = omega arith
 printable-requires : tie.Need-printable-requires Inv-loop μ-loop
 printable-requires c κs = search needs
 
-slice-aggregate-text-2 : tie.Need-slice-aggregate-text-2 Inv-loop μ-loop
-slice-aggregate-text-2 c = search needs
+slice-aggregate-text : tie.Need-slice-aggregate-text Inv-loop μ-loop
+slice-aggregate-text c = search needs
 
 text-requires-2 : tie.Need-text-requires-2 Inv-loop μ-loop
 text-requires-2 c κs = search needs
@@ -45,8 +42,8 @@ loop-less c = omega arith
 loop-again : tie.Need-loop-again Inv-loop μ-loop
 loop-again c = omega arith
 
-slice-aggregate-text-3 : tie.Need-slice-aggregate-text-3 Inv-loop μ-loop
-slice-aggregate-text-3 c = search needs
+slice-aggregate-text-2 : tie.Need-slice-aggregate-text-2 Inv-loop μ-loop
+slice-aggregate-text-2 c = search needs
 
 text-requires-3 : tie.Need-text-requires-3 Inv-loop μ-loop
 text-requires-3 c κs = search needs
@@ -61,16 +58,15 @@ quoted-at-spec =
     Inv-loop
     μ-loop
     part-requires
-    slice-aggregate-text
     text-requires
     loop-holds
     shared-slice-read-printable
     printable-requires
-    slice-aggregate-text-2
+    slice-aggregate-text
     text-requires-2
     add-i
     loop-less
     loop-again
-    slice-aggregate-text-3
+    slice-aggregate-text-2
     text-requires-3
     returns)

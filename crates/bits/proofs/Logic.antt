@@ -1,15 +1,15 @@
 -- Laws of tests: two that hold together, one at every number below a bound, two that agree on every byte. Assumes nothing.
 use mathlib.Core.Path.{_≡_, refl, sym, ap, _∙_}
-use mathlib.Core.Bool.{Bool, true, false, not, _&&_, _||_}
+use mathlib.Core.Bool.{Bool, true, false, not, _&&_}
 use mathlib.Core.Logic.{⊎-elim}
-use Prim.Native.Nat.{ℕ, zero, suc, _+_, _<_, _≤_}
+use Prim.Native.Nat.{ℕ, zero, suc, _+_, _<_}
 use native.Mathlib.Nat.{not-suc-le-zero, le-of-suc-le-suc, eq-or-lt-of-le}
 use native.Mathlib.Numerals.{add-one}
 use native.Mathlib.Omega.{arith}
 use borrow.Author.Tests.{not-true, le-ltb, lt-ltb}
 use mir.Val.{Fits}
 use mir.Syntax.{w8}
-use Rattle.bits.specs.Choice.{pick, allBelow, firstBelow, sumBelow}
+use Rattle.bits.specs.Choice.{pick, allBelow, firstBelow}
 
 pub never : {A : Type 0} → true ≡ false → A
 never e = let z : _≡_ {A = ℕ} 0 1 = cc in absurd (omega arith)

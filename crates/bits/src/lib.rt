@@ -3,7 +3,7 @@
 // Nothing here asks anything of its caller: a byte past the end of a slice reads as 0, and bytes that
 // would not fit are not written.
 ghost use mathlib.Core.Path.{_≡_};
-ghost use Prim.Native.Nat.{_+_, _*_, _%_};
+ghost use Prim.Native.Nat.{_+_, _*_};
 ghost use lib.ListN.{getD};
 ghost use Rattle.bits.specs.Bits.{nibble, join};
 ghost use Rattle.bits.specs.Places.{fourAt, putFour, twoAt};

@@ -7,7 +7,6 @@ use native.Mathlib.Omega.{arith}
 use Rattle.bits.specs.Choice.{pick}
 use Rattle.bits.proofs.Logic.{and-both, pick-yes, pick-no}
 use Rattle.shelf.specs.declared.opening.Sizes.{Sizes}
-use Rattle.shelf.specs.declared.opening.Opened.{Opened}
 use Rattle.shelf.specs.declared.opening.Opened.the-variants.{Shelf, NotWellFormed}
 use Rattle.shelf.specs.Types.{typesOf, elementsOf}
 use Rattle.shelf.specs.Formed.{headFormed, typesFormed, sizeFormed, elementsFormed, wellFormed, opened}

@@ -8,7 +8,6 @@ use Rattle.bits.specs.Choice.{pick, allBelow}
 use Rattle.kinds.specs.Types.{served, readingAllowed, nominalAllowed}
 use Rattle.kinds.specs.Settings.{settingsFormed}
 use Rattle.verdicts.specs.Thresholds.{had, ordered}
-use Rattle.shelf.specs.declared.opening.Sizes.{Sizes}
 use Rattle.shelf.specs.declared.opening.Opened.{Opened}
 use Rattle.shelf.specs.declared.opening.Opened.the-variants.{Shelf, NotWellFormed}
 use Rattle.shelf.specs.Limits.{mostTypes, mostElements, mostInType, mostText, typeSize, typePlace, textPlace, elementPlace}

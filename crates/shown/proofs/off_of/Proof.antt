@@ -1,8 +1,8 @@
 -- `shown::off_of` meets its contract. Assumes nothing.
-use mathlib.Core.Path.{_≡_, refl, sym, ap, _∙_}
-use mathlib.Core.Bool.{Bool, true, false, not, _&&_}
-use mathlib.Core.List.{List, [], _∷_}
-use Rattle.bits.proofs.Halves.{mask, and1, and7, and15}
+use mathlib.Core.Path.{_≡_, refl}
+use mathlib.Core.Bool.{false}
+use mathlib.Core.List.{[], _∷_}
+use Rattle.bits.proofs.Halves.{and1}
 use Rattle.kinds.proofs.Arms.{arms}
 use Rattle.shown.specs.Status.{offOf}
 use borrow.Author.Needs.{needs}

@@ -1,9 +1,9 @@
 -- `shown::reading_of` meets its contract. Assumes nothing.
 use mir.Val.{Fits}
 use mir.Syntax.{w8}
-use mathlib.Core.Path.{_≡_, refl, sym, ap, _∙_}
-use mathlib.Core.List.{List, [], _∷_}
-use Prim.Native.Nat.{ℕ, _+_, _*_, _/_, _%_, _<_}
+use mathlib.Core.Path.{_≡_}
+use mathlib.Core.List.{[], _∷_}
+use Prim.Native.Nat.{_+_, _*_}
 use lib.ListN.{getD}
 use native.Mathlib.Omega.{arith}
 use mir.Val.{Fits}

@@ -1,5 +1,5 @@
 -- `kinds::control::speed_after` meets its contract. Assumes nothing.
-use borrow.Author.Tests.{eq-eqb, ne-eqb, le-leb, lt-leb}
+use borrow.Author.Tests.{eq-eqb, ne-eqb}
 use Rattle.kinds.proofs.control.speed_after.Statement.{statement}
 use Rattle.kinds.proofs.control.speed_after.Tie as tie
 

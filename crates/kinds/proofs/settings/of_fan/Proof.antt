@@ -1,5 +1,5 @@
 -- `kinds::settings::of_fan` meets its contract. Assumes nothing.
-use Rattle.bits.proofs.Halves.{mask, and1, and7, and15}
+use Rattle.bits.proofs.Halves.{and1, and7}
 use borrow.Author.Needs.{needs}
 use Rattle.kinds.proofs.settings.of_fan.Statement.{statement}
 use Rattle.kinds.proofs.settings.of_fan.Tie as tie

@@ -1,5 +1,5 @@
 -- `kinds::settings::of_sensor` meets its contract. Assumes nothing.
-use Rattle.bits.proofs.Halves.{mask, and1, and7, and15}
+use Rattle.bits.proofs.Halves.{and1}
 use borrow.Author.Needs.{needs}
 use Rattle.kinds.proofs.settings.of_sensor.Statement.{statement}
 use Rattle.kinds.proofs.settings.of_sensor.Tie as tie

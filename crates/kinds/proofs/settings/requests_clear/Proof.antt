@@ -1,13 +1,13 @@
 -- `kinds::settings::requests_clear` meets its contract. Assumes nothing.
-use mathlib.Core.Path.{_≡_, refl, sym, ap, _∙_}
-use mathlib.Core.Bool.{Bool, true, false, not, _&&_}
-use mathlib.Core.List.{List, [], _∷_}
+use mathlib.Core.Path.{_≡_, refl}
+use mathlib.Core.Bool.{_&&_}
+use mathlib.Core.List.{[], _∷_}
 use lib.ListN.{getD}
-use lib.Dec.{eqb, leb, ltb}
+use lib.Dec.{eqb}
 use lib.Bits.{bitAnd}
 use mir.Val.{Fits}
-use mir.Syntax.{w8, w32}
-use Rattle.bits.proofs.Halves.{mask, and1, and7, and15}
+use mir.Syntax.{w8}
+use Rattle.bits.proofs.Halves.{mask}
 use Rattle.kinds.proofs.Arms.{arms}
 use Rattle.kinds.specs.Settings.{requestsClear}
 use borrow.Author.Needs.{needs}

@@ -1,11 +1,10 @@
 -- `shelf::opening::type_empty` meets its contract. Assumes nothing.
-use mathlib.Core.Path.{_≡_, refl, sym, ap, _∙_}
-use mathlib.Core.Bool.{Bool, true, false, not, _&&_}
-use Prim.Native.Nat.{ℕ, _≤_, _-_}
+use mathlib.Core.Path.{_≡_, refl, sym}
+use mathlib.Core.Bool.{true}
+use Prim.Native.Nat.{_≤_, _-_}
 use native.Mathlib.Omega.{arith}
 use borrow.Author.Needs.{needs}
 use denote.Ref.{now}
-use borrow.Author.Tests.{not-true, not-false}
 use Rattle.bits.specs.Choice.{allBelow}
 use Rattle.bits.proofs.Logic.{below-fails, below-next}
 use Rattle.shelf.specs.Formed.{typeEmpty, typeByteEmpty}

@@ -1,6 +1,6 @@
 -- `verdicts::thresholds::are_ordered` meets its contract. Assumes nothing.
-use mathlib.Core.Path.{_≡_, refl, sym, ap, _∙_}
-use mathlib.Core.List.{List, [], _∷_}
+use mathlib.Core.Path.{_≡_}
+use mathlib.Core.List.{[], _∷_}
 use Rattle.kinds.proofs.Arms.{arms}
 use Rattle.verdicts.specs.Thresholds.{ordered}
 use borrow.Author.Needs.{needs}

@@ -1,5 +1,5 @@
 -- `verdicts::thresholds::byte_taken` meets its contract. Assumes nothing.
-use borrow.Author.Tests.{eq-eqb, ne-eqb, le-leb, lt-leb}
+use borrow.Author.Tests.{eq-eqb, ne-eqb}
 use Rattle.verdicts.proofs.thresholds.byte_taken.Statement.{statement}
 use Rattle.verdicts.proofs.thresholds.byte_taken.Tie as tie
 

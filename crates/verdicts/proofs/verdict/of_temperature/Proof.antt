@@ -1,5 +1,5 @@
 -- `verdicts::verdict::of_temperature` meets its contract. Assumes nothing.
-use borrow.Author.Tests.{eq-eqb, ne-eqb, le-leb, lt-leb}
+use borrow.Author.Tests.{eq-eqb, ne-eqb}
 use borrow.Author.Needs.{needs}
 use Rattle.verdicts.proofs.verdict.of_temperature.Statement.{statement}
 use Rattle.verdicts.proofs.verdict.of_temperature.Tie as tie

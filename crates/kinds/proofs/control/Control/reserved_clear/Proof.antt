@@ -3,7 +3,7 @@ use mir.Val.{Fits}
 use mir.Syntax.{w8}
 use mathlib.Core.Path.{refl, sym}
 use mathlib.Core.Bool.{true, _&&_}
-use mathlib.Core.List.{List, [], _∷_}
+use mathlib.Core.List.{[], _∷_}
 use lib.ListN.{getD}
 use mir.Val.{Fits}
 use mir.Syntax.{w8}

@@ -1,6 +1,6 @@
 -- `kinds::settings::Settings::bytes` meets its contract. Assumes nothing.
-use mathlib.Core.Path.{_≡_, refl, sym, ap, _∙_}
-use mathlib.Core.List.{List, [], _∷_}
+use mathlib.Core.Path.{_≡_}
+use mathlib.Core.List.{[], _∷_}
 use Rattle.kinds.proofs.Arms.{arms}
 use Rattle.kinds.specs.Settings.{settingsBytes}
 use borrow.Author.Needs.{needs}

@@ -1,8 +1,8 @@
 -- `kinds::types::Kind::may_have_nominal` meets its contract. Assumes nothing.
-use mathlib.Core.Path.{_≡_, refl, sym, ap, _∙_}
-use mathlib.Core.Bool.{Bool, true, false, not, _&&_}
-use mathlib.Core.List.{List, [], _∷_}
-use lib.Dec.{eqb, leb, ltb}
+use mathlib.Core.Path.{_≡_, refl}
+use mathlib.Core.Bool.{_&&_}
+use mathlib.Core.List.{[], _∷_}
+use lib.Dec.{eqb, leb}
 use Rattle.kinds.proofs.Arms.{arms}
 use Rattle.kinds.specs.Types.{nominalAllowed}
 use Rattle.kinds.proofs.types.Kind.may_have_nominal.Statement.{statement}

@@ -1,7 +1,7 @@
 -- `kinds::types::Kind::may_read` meets its contract. Assumes nothing.
-use mathlib.Core.Path.{_≡_, refl, sym, ap, _∙_}
-use mathlib.Core.Bool.{Bool, true, false, not, _&&_}
-use mathlib.Core.List.{List, [], _∷_}
+use mathlib.Core.Path.{_≡_, refl}
+use mathlib.Core.Bool.{true}
+use mathlib.Core.List.{[], _∷_}
 use Rattle.kinds.proofs.Arms.{arms}
 use Rattle.kinds.specs.Types.{readingAllowed}
 use borrow.Author.Needs.{needs}

@@ -1,5 +1,5 @@
 -- `kinds::types::Kind::of` meets its contract. Assumes nothing.
-use borrow.Author.Tests.{eq-eqb, ne-eqb, le-leb, lt-leb}
+use borrow.Author.Tests.{eq-eqb, ne-eqb}
 use native.Mathlib.Omega.{arith}
 use Rattle.kinds.specs.Types.{kindOf}
 use Rattle.kinds.proofs.types.Kind.of.Statement.{statement}

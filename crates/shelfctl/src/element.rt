@@ -1,5 +1,4 @@
 // One element in a line: its code, its reading, the flags and limit bits that are set, and its thresholds.
-use crate::say;
 use kinds::settings::Settings;
 use kinds::types::Kind;
 use shelf::elements;

@@ -3,8 +3,6 @@
 // Every answer goes to standard output, a refusal too. What keeps a block from being read goes to standard error.
 mod builtin;
 mod element;
-mod refusal;
-mod say;
 mod show;
 
 use libc::STDERR_FILENO;
@@ -74,7 +72,7 @@ fn tell(command: Command, shelf: &[u8]) {
     let answer = ses::check(shelf);
     match answer {
         Answer::Accepted => tell_accepted(command, shelf),
-        Answer::Refused(r) => refusal::say_refusal(r),
+        Answer::Refused(r) => say::refusal::tell(r),
     }
 }
 

@@ -1,6 +1,5 @@
 // What a well-formed shelf holds: its head, its types, and the elements of each.
 use crate::element;
-use crate::say;
 use kinds::types::Kind;
 use shelf::limits;
 use shelf::types;

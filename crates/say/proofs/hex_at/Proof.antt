@@ -1,10 +1,10 @@
--- `shelfctl::say::hex_at` is safe and ends. Assumes nothing.
+-- `say::hex_at` is safe and ends. Assumes nothing.
 use Prim.Native.Nat.{_≤_, _-_}
 use native.Mathlib.Omega.{arith}
 use lib.ListN.{length}
 use borrow.Author.Needs.{needs}
-use Rattle.shelfctl.proofs.say.hex_at.Statement.{statement}
-use Rattle.shelfctl.proofs.say.hex_at.Tie as tie
+use Rattle.say.proofs.hex_at.Statement.{statement}
+use Rattle.say.proofs.hex_at.Tie as tie
 
 abbrev Inv-loop : tie.InvT-loop
 Inv-loop s at n bytes i₀ i = i ≤ length bytes

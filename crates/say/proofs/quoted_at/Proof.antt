@@ -1,10 +1,10 @@
--- `shelfctl::say::quoted_at` is safe and ends. Assumes nothing.
+-- `say::quoted_at` is safe and ends. Assumes nothing.
 use Prim.Native.Nat.{_≤_, _-_}
 use native.Mathlib.Omega.{arith}
 use lib.ListN.{length}
 use borrow.Author.Needs.{needs}
-use Rattle.shelfctl.proofs.say.quoted_at.Statement.{statement}
-use Rattle.shelfctl.proofs.say.quoted_at.Tie as tie
+use Rattle.say.proofs.quoted_at.Statement.{statement}
+use Rattle.say.proofs.quoted_at.Tie as tie
 
 abbrev Inv-loop : tie.InvT-loop
 Inv-loop words s at n bytes i₀ t7 i = i ≤ length bytes

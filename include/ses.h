@@ -41,14 +41,14 @@ static inline const char *ses_meaning(uint8_t number)
     case SES_ACCEPTED: return "accepted";
     case SES_SHELF_NOT_WELL_FORMED: return "the shelf record is not well formed";
     case SES_PAGE_TOO_SHORT: return "the page has fewer than 4 bytes";
-    case SES_PAGE_CODE: return "the page has another page code";
-    case SES_PAGE_LENGTH: return "the page has another length than it says or than the types need";
-    case SES_GENERATION: return "the generation code is not the shelf's";
+    case SES_PAGE_CODE: return "byte 0 is not the page code wanted";
+    case SES_PAGE_LENGTH: return "the length is not what the page says or the types need";
+    case SES_GENERATION: return "the generation code differs from the shelf's";
     case SES_NOT_ALLOWED: return "a reserved bit is set, or a value is not allowed";
-    case SES_NO_SUCH_THRESHOLD: return "a threshold is set that the element type does not have";
-    case SES_THRESHOLD_ORDER: return "thresholds would be out of order";
-    case SES_WANTED_LIST: return "the list has another number of records, or one that its type may not have";
-    case SES_UNREACHABLE: return "no control page reaches the wanted settings";
+    case SES_NO_SUCH_THRESHOLD: return "a threshold is set that the type does not have";
+    case SES_THRESHOLD_ORDER: return "an element would break the threshold order";
+    case SES_WANTED_LIST: return "the list does not fit the shelf's elements";
+    case SES_UNREACHABLE: return "no valid control page reaches the wanted settings";
     case SES_OUTPUT_TOO_SHORT: return "the output buffer is shorter than the page";
     default: return "no refusal has this number";
     }

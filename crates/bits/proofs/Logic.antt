@@ -6,9 +6,10 @@ use Prim.Native.Nat.{ℕ, zero, suc, _+_, _<_}
 use native.Mathlib.Nat.{not-suc-le-zero, le-of-suc-le-suc, eq-or-lt-of-le}
 use native.Mathlib.Numerals.{add-one}
 use native.Mathlib.Omega.{arith}
-use borrow.Author.Tests.{not-true, le-ltb, lt-ltb}
+use borrow.Author.Tests.{not-true, le-ltb, lt-ltb, ltb-true, ltb-false}
 use mir.Val.{Fits}
 use mir.Syntax.{w8}
+use lib.Dec.{ltb}
 use Rattle.bits.specs.Choice.{pick, allBelow, firstBelow}
 
 pub never : {A : Type 0} → true ≡ false → A
@@ -87,6 +88,29 @@ first-at f (suc n) k h t e =
         let u : allBelow (fails f) n ≡ true = rw (← q) t in
         let v : f n ≡ true = rw (← q) e in
         rw (first-none f n u, le-ltb n n (omega arith), v) (sym q)
+
+-- where a search found something, the test passes there, and at no number before
+pub first-passes : (f : ℕ → Bool) (n : ℕ) → firstBelow f n < n → f (firstBelow f n) ≡ true
+first-passes f zero h = absurd (not-suc-le-zero h)
+first-passes f (suc n) h = go (first-passes f n) (ltb (firstBelow f n) n) refl (f n) refl h
+  where
+    go : (firstBelow f n < n → f (firstBelow f n) ≡ true) → (t : Bool) → ltb (firstBelow f n) n ≡ t → (b : Bool) → f n ≡ b
+        → pick t (firstBelow f n) (pick b n (suc n)) < suc n → f (pick t (firstBelow f n) (pick b n (suc n))) ≡ true
+    go ih true e b q l = ih (ltb-true (firstBelow f n) n e)
+    go ih false e true q l = q
+    go ih false e false q l = absurd (omega arith)
+
+pub first-fails : (f : ℕ → Bool) (n k : ℕ) → k < firstBelow f n → f k ≡ false
+first-fails f zero k h = absurd (not-suc-le-zero h)
+first-fails f (suc n) k h = go (first-fails f n k) (ltb (firstBelow f n) n) refl (f n) refl h
+  where
+    go : (k < firstBelow f n → f k ≡ false) → (t : Bool) → ltb (firstBelow f n) n ≡ t → (b : Bool) → f n ≡ b
+        → k < pick t (firstBelow f n) (pick b n (suc n)) → f k ≡ false
+    go ih true e b q l = ih l
+    go ih false e true q l = let m = ltb-false (firstBelow f n) n e in ih (omega arith)
+    go ih false e false q l =
+        let m = ltb-false (firstBelow f n) n e in
+        ⊎-elim (λ r. ap f r ∙ q) (λ (r : k < n). ih (omega arith)) (eq-or-lt-of-le (le-of-suc-le-suc l))
 
 abbrev pub same : Bool → Bool → Bool
 same true b = b

@@ -2,3 +2,4 @@ pub mod Counts
 pub mod Judged
 pub mod Stages
 pub mod Stored
+pub mod Typed

@@ -9,6 +9,7 @@ mod rng;
 mod selftest;
 mod shelves;
 
+use std::io::{stdout, Write};
 use std::process::ExitCode;
 
 fn main() -> ExitCode {
@@ -16,9 +17,10 @@ fn main() -> ExitCode {
     let command: Vec<&str> = arguments.iter().map(String::as_str).collect();
     let passed = match &command[..] {
         ["selftest"] => selftest::run(),
+        ["shelf-a"] => stdout().write_all(&selftest::block_a()).is_ok(),
         ["shelves", library @ ..] if !library.is_empty() => shelves::run(library),
         _ => {
-            eprintln!("usage: independent selftest | shelves PROGRAM [ARGUMENT]...");
+            eprintln!("usage: independent selftest | shelf-a | shelves PROGRAM [ARGUMENT]...");
             return ExitCode::from(2);
         }
     };

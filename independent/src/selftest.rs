@@ -72,6 +72,11 @@ fn fan_like(common: Settings, speed: u8, reading: u16) -> Element {
     }
 }
 
+/// The block of shelf A.
+pub fn block_a() -> Vec<u8> {
+    shelf_a(fans_a().to_vec()).block()
+}
+
 fn fans_a() -> [Element; 3] {
     [fan(3), fan(3), fan(3)]
 }

@@ -2,7 +2,7 @@
 use mathlib.Core.Path.{_≡_, refl, sym, _∙_}
 use mathlib.Core.Bool.{Bool, true, false, _&&_}
 use mathlib.Core.List.{List}
-use Prim.Native.Nat.{ℕ, zero, suc, _+_, _<_, _≤_}
+use Prim.Native.Nat.{ℕ, zero, suc, _+_, _<_, _≤_, _-_}
 use native.Mathlib.Numerals.{add-one}
 use native.Mathlib.Omega.{arith}
 use lib.Dec.{eqb, leb, ltb}
@@ -30,7 +30,7 @@ module _ (s : List ℕ) (j : ℕ) (h : j < elementsOf s) where
       go true e = ltb-true _ mostTypes e
       go false e =
           let l = ltb-false (firstBelow (within s j) mostTypes) mostTypes e in
-          both (within s j 7) (lt-ltb j (before s 8) h) (first-fails (within s j) mostTypes 7 (omega arith))
+          both (within s j (mostTypes - 1)) (lt-ltb j (before s mostTypes) h) (first-fails (within s j) mostTypes (mostTypes - 1) (omega arith))
 
   -- before the end of its type
   pub type-end : j < before s (typeOf s j + 1)

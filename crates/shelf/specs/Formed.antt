@@ -18,12 +18,12 @@ use Rattle.shelf.specs.Elements.{settingsAt, thresholdsAt, readingAt, no
 abbrev pub zeros : List ℕ → Bool
 zeros e = ((eqb (getD e 0 0) 0 && eqb (getD e 1 0) 0) && eqb (getD e 2 0) 0) && eqb (getD e 3 0) 0
 
--- 1 to 8 types; the three bytes after their number are zero
+-- at least one type and not too many; the three bytes after their number are zero
 unfoldable pub headFormed : List ℕ → Bool
 headFormed s =
     (((leb 1 (typesOf s) && leb (typesOf s) mostTypes) && eqb (getD s 41 0) 0) && eqb (getD s 42 0) 0) && eqb (getD s 43 0) 0
 
--- a text of 0 to 32 bytes, each 20h to 7Eh, and zeros after its end
+-- each byte of the text is 20h to 7Eh, and zeros stand after its end
 abbrev pub textByteFormed : List ℕ → ℕ → ℕ → Bool
 textByteFormed s t i =
     let b : ℕ = getD s (textPlace t + i) 0 in
@@ -69,7 +69,7 @@ elementFormed s j =
 unfoldable pub elementsFormed : List ℕ → ℕ → Bool
 elementsFormed s n = allBelow (elementFormed s) n
 
--- at most 64 elements in all, and just the bytes that they need
+-- not too many elements in all, and just the bytes that they need
 unfoldable pub sizeFormed : List ℕ → ℕ → Bool
 sizeFormed s n = leb n mostElements && eqb (length s) (elementPlace n)
 

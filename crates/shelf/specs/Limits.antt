@@ -1,4 +1,5 @@
--- The limits of a shelf record, and the places that follow from them. Assumes nothing.
+-- The limits of a shelf record: types, elements in all, elements of one type, bytes of a text; and the places that follow from them.
+-- They stand here and, for the code, in src/limits.rt. Assumes nothing.
 use Prim.Native.Nat.{ℕ, _+_, _*_}
 
 abbrev pub mostTypes : ℕ

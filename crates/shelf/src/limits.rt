@@ -1,4 +1,5 @@
-// The limits of a shelf record, and the places that follow from them. They stand here and nowhere else.
+// The limits of a shelf record, and the places that follow from them. They stand here and, for the
+// contracts, in specs/Limits.antt.
 ghost use mathlib.Core.Path.{_≡_};
 ghost use Rattle.shelf.specs.Limits.{typePlace, textPlace, elementPlace};
 

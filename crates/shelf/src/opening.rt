@@ -39,7 +39,7 @@ pub fn open_shelf(shelf: &[u8]) -> Opened
     Opened::Shelf(Sizes { types: n, elements })
 }
 
-// The number of types is one to eight, and the three bytes after it are zero.
+// There is a type, there are not too many, and the three bytes after their number are zero.
 fn head_formed(shelf: &[u8]) -> bool
     ensures { λ r. ⌜ r ≡ headFormed (now (shelf .entry)) ⌝ }
 {

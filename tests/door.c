@@ -1,15 +1,32 @@
 /* The library behind a pipe, so that a program of any language and processor can ask it.
  *
  * A request is one byte that names the call, then its buffers, each a length of four bytes (the highest
- * first) and as many bytes. 'c' asks ses_check and is answered by one byte. '.' has all answers sent.
+ * first) and as many bytes. The answer is the call's own byte and then the buffer that it may change.
+ *
+ *   c shelf                   ses_check
+ *   k shelf overall own       trial_control, and the shelf
+ *   t shelf overall own       trial_thresholds, and the shelf
+ *   s shelf                   trial_status, and four bytes
+ *   .                         all answers are sent
  */
 #include "ses.h"
 
 #include <stdio.h>
 #include <stdlib.h>
 
-static unsigned char *buffer;
-static size_t room;
+uint8_t trial_control(uint8_t *shelf, size_t shelf_length, const uint8_t *overall, size_t overall_length,
+                      const uint8_t *own, size_t own_length);
+uint8_t trial_thresholds(uint8_t *shelf, size_t shelf_length, const uint8_t *overall, size_t overall_length,
+                         const uint8_t *own, size_t own_length);
+uint8_t trial_status(const uint8_t *shelf, size_t shelf_length, uint8_t *out, size_t out_length);
+
+struct buffer {
+    uint8_t *bytes;
+    size_t length;
+    size_t room;
+};
+
+static struct buffer shelf, overall, own;
 
 static void fail(const char *why)
 {
@@ -17,35 +34,62 @@ static void fail(const char *why)
     exit(1);
 }
 
-/* Reads one buffer and answers its length. */
-static size_t take(void)
+static void take(struct buffer *b)
 {
     unsigned char head[4];
     if (fread(head, 1, 4, stdin) != 4)
         fail("a length is cut off");
-    size_t length = (size_t)head[0] << 24 | (size_t)head[1] << 16 | (size_t)head[2] << 8 | head[3];
-    if (room < length + 1) {
-        free(buffer);
-        room = length + 1;
-        buffer = malloc(room);
-        if (buffer == NULL)
+    b->length = (size_t)head[0] << 24 | (size_t)head[1] << 16 | (size_t)head[2] << 8 | head[3];
+    if (b->room < b->length + 1) {
+        free(b->bytes);
+        b->room = b->length + 1;
+        b->bytes = malloc(b->room);
+        if (b->bytes == NULL)
             fail("no memory");
     }
-    if (fread(buffer, 1, length, stdin) != length)
+    if (fread(b->bytes, 1, b->length, stdin) != b->length)
         fail("a buffer is cut off");
-    return length;
+}
+
+static void answer_on_shelf(uint8_t (*call)(uint8_t *, size_t, const uint8_t *, size_t, const uint8_t *, size_t))
+{
+    take(&shelf);
+    take(&overall);
+    take(&own);
+    putchar(call(shelf.bytes, shelf.length, overall.bytes, overall.length, own.bytes, own.length));
+    fwrite(shelf.bytes, 1, shelf.length, stdout);
+}
+
+static void answer_status(void)
+{
+    uint8_t out[4] = {0};
+    take(&shelf);
+    putchar(trial_status(shelf.bytes, shelf.length, out, sizeof out));
+    fwrite(out, 1, sizeof out, stdout);
 }
 
 int main(void)
 {
     int call;
     while ((call = getchar()) != EOF) {
-        if (call == 'c') {
-            size_t length = take();
-            putchar(ses_check(buffer, length));
-        } else if (call == '.') {
+        switch (call) {
+        case 'c':
+            take(&shelf);
+            putchar(ses_check(shelf.bytes, shelf.length));
+            break;
+        case 'k':
+            answer_on_shelf(trial_control);
+            break;
+        case 't':
+            answer_on_shelf(trial_thresholds);
+            break;
+        case 's':
+            answer_status();
+            break;
+        case '.':
             fflush(stdout);
-        } else {
+            break;
+        default:
             fail("an unknown call");
         }
     }

@@ -245,7 +245,7 @@ fn low_order(element: &mut Element, rng: &mut Rng) {
     };
 }
 
-fn thresholds_of(element: &mut Element) -> &mut Thresholds {
+pub fn thresholds_of(element: &mut Element) -> &mut Thresholds {
     match element {
         Element::Cooling { thresholds, .. }
         | Element::Temperature { thresholds, .. }
@@ -458,7 +458,7 @@ fn shelf(rng: &mut Rng) -> Shelf {
     shelf_of(rng, groups)
 }
 
-fn shelf_of(rng: &mut Rng, groups: Vec<Group>) -> Shelf {
+pub fn shelf_of(rng: &mut Rng, groups: Vec<Group>) -> Shelf {
     Shelf {
         generation: u32::from_be_bytes(from_fn(|_| rng.byte())),
         identification: Identification {
@@ -524,7 +524,7 @@ fn text(rng: &mut Rng, length: usize) -> Vec<u8> {
         .collect()
 }
 
-fn element(rng: &mut Rng, kind: Kind) -> Element {
+pub fn element(rng: &mut Rng, kind: Kind) -> Element {
     match kind {
         Kind::Cooling => Element::Cooling {
             settings: FanSettings {

@@ -27,20 +27,17 @@ impl Library {
         }
     }
 
-    /// For each block 0 if the library holds it to be well formed, else its refusal number.
-    pub fn check(&mut self, blocks: &[Vec<u8>]) -> Vec<u8> {
-        for block in blocks {
-            let length = u32::try_from(block.len()).expect("a block of less than 4 GiB");
-            self.send(b"c");
-            self.send(&length.to_be_bytes());
-            self.send(block);
+    /// Sends the requests and reads all answers, which have so many bytes together.
+    pub fn ask(&mut self, requests: &[Vec<u8>], answer_bytes: usize) -> Vec<u8> {
+        for request in requests {
+            self.send(request);
         }
         self.send(b".");
         self.requests.flush().expect("the library's program reads");
-        let mut answers = vec![0xff; blocks.len()];
+        let mut answers = vec![0xff; answer_bytes];
         self.answers
             .read_exact(&mut answers)
-            .expect("an answer to each block");
+            .expect("an answer to each request");
         answers
     }
 
@@ -61,4 +58,15 @@ impl Library {
             .write_all(bytes)
             .expect("the library's program reads");
     }
+}
+
+/// A call's name, and each buffer behind its length.
+pub fn request(call: u8, buffers: &[&[u8]]) -> Vec<u8> {
+    let mut request = vec![call];
+    for buffer in buffers {
+        let length = u32::try_from(buffer.len()).expect("a buffer of less than 4 GiB");
+        request.extend(length.to_be_bytes());
+        request.extend(*buffer);
+    }
+    request
 }

@@ -3,6 +3,7 @@
 mod bits;
 mod cases;
 mod element;
+mod elements;
 mod library;
 mod record;
 mod rng;
@@ -18,9 +19,10 @@ fn main() -> ExitCode {
     let passed = match &command[..] {
         ["selftest"] => selftest::run(),
         ["shelf-a"] => stdout().write_all(&selftest::block_a()).is_ok(),
+        ["elements", library @ ..] if !library.is_empty() => elements::run(library),
         ["shelves", library @ ..] if !library.is_empty() => shelves::run(library),
         _ => {
-            eprintln!("usage: independent selftest | shelf-a | shelves PROGRAM [ARGUMENT]...");
+            eprintln!("usage: independent selftest | shelf-a | (elements | shelves) PROGRAM [ARGUMENT]...");
             return ExitCode::from(2);
         }
     };

@@ -1,7 +1,7 @@
 //! Compares the library's answer on shelf blocks with the one reached here.
 
 use crate::cases::{self, Intent};
-use crate::library::Library;
+use crate::library::{request, Library};
 use crate::record;
 use crate::rng::Rng;
 use std::process::exit;
@@ -59,7 +59,12 @@ impl Comparison {
     }
 
     fn ask(&mut self) {
-        let answers = self.library.check(&self.waiting);
+        let requests: Vec<Vec<u8>> = self
+            .waiting
+            .iter()
+            .map(|block| request(b'c', &[block]))
+            .collect();
+        let answers = self.library.ask(&requests, requests.len());
         for (block, library) in self.waiting.drain(..).zip(answers) {
             let well_formed = record::is_well_formed_block(&block);
             let own = if well_formed { 0 } else { 1 };

@@ -1,0 +1,56 @@
+// One element's rules, for the independent program to ask of the first element of a shelf. No part of the library: the calls
+// on pages will take its place.
+use kinds::control::Control;
+use kinds::settings::Settings;
+use shelf::elements;
+use shelf::types;
+use shown::Shown;
+use verdicts::thresholds;
+
+// What the overall and the individual control element make of the element's settings; 6 for a reserved bit.
+#[no_mangle]
+pub extern "C" fn trial_control(shelf: &mut [u8], overall: &[u8], own: &[u8]) -> u8 {
+    let kind = types::kind_at(shelf, 0);
+    let all = bits::four_at(overall, 0);
+    let one = bits::four_at(own, 0);
+    if !Control::reserved_clear(kind, all) | !Control::reserved_clear(kind, one) {
+        return 6;
+    }
+    let control = Control::chosen(Control::of(kind, all), Control::of(kind, one));
+    let set = control.act(Settings::of(kind, elements::settings_at(shelf, 0)));
+    elements::put_settings(shelf, 0, set.bytes(kind));
+    0
+}
+
+// The element's thresholds after overall and individual bytes; 7 for one that the type does not have, 8 for their order.
+#[no_mangle]
+pub extern "C" fn trial_thresholds(shelf: &mut [u8], overall: &[u8], own: &[u8]) -> u8 {
+    let kind = types::kind_at(shelf, 0);
+    let all = bits::four_at(overall, 0);
+    let one = bits::four_at(own, 0);
+    if !thresholds::are_had(kind, all) | !thresholds::are_had(kind, one) {
+        return 7;
+    }
+    let t = thresholds::taken(one, all, elements::thresholds_at(shelf, 0));
+    if !thresholds::are_ordered(kind, t) {
+        return 8;
+    }
+    elements::put_thresholds(shelf, 0, t);
+    0
+}
+
+// The status bytes of the element, written, read and written again; 6 if they are not accepted.
+#[no_mangle]
+pub extern "C" fn trial_status(shelf: &[u8], out: &mut [u8]) -> u8 {
+    let kind = types::kind_at(shelf, 0);
+    let set = Settings::of(kind, elements::settings_at(shelf, 0));
+    let reading = elements::reading_at(shelf, 0);
+    let nominal = elements::nominal_at(shelf, 0);
+    let t = elements::thresholds_at(shelf, 0);
+    let e = Shown::by(kind, set, reading, nominal, t).bytes(kind);
+    if !Shown::reserved_clear(kind, e) {
+        return 6;
+    }
+    bits::put_four(out, 0, Shown::of(kind, e).bytes(kind));
+    0
+}

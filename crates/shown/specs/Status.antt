@@ -49,20 +49,18 @@ temperatureStatus x =
     ∷ nibble (x .verdict .highcrit) (x .verdict .highwarn) (x .verdict .lowcrit) (x .verdict .lowwarn)
     ∷ []
 
--- byte 1: bits 7, 6 as before, bits 3 to 0 WARN OVER, WARN UNDER, CRIT OVER, CRIT UNDER; bytes 2 and 3 the reading
+-- byte 1: bits 7, 6 as before, and the limit bits; bytes 2 and 3 the reading
+abbrev pub electricStatus : Shown → ℕ → List ℕ
+electricStatus x limits =
+    firstByte x ∷ join (nibble (x .set .ident) (x .set .fail) false false) limits ∷ bytes 2 (x .reading)
+
+-- bits 3 to 0 WARN OVER, WARN UNDER, CRIT OVER, CRIT UNDER
 abbrev pub voltageStatus : Shown → List ℕ
-voltageStatus x =
-    firstByte x
-    ∷ join (nibble (x .set .ident) (x .set .fail) false false)
-    (nibble (x .verdict .highwarn) (x .verdict .lowwarn) (x .verdict .highcrit) (x .verdict .lowcrit))
-    ∷ bytes 2 (x .reading)
+voltageStatus x = electricStatus x (nibble (x .verdict .highwarn) (x .verdict .lowwarn) (x .verdict .highcrit) (x .verdict .lowcrit))
 
 -- the same without the two UNDER bits
 abbrev pub currentStatus : Shown → List ℕ
-currentStatus x =
-    firstByte x
-    ∷ join (nibble (x .set .ident) (x .set .fail) false false) (nibble (x .verdict .highwarn) false (x .verdict .highcrit) false)
-    ∷ bytes 2 (x .reading)
+currentStatus x = electricStatus x (nibble (x .verdict .highwarn) false (x .verdict .highcrit) false)
 
 unfoldable pub statusBytes : Kind → Shown → List ℕ
 statusBytes Cooling x = fanStatus x

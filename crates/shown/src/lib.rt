@@ -3,7 +3,7 @@ use kinds::settings::Settings;
 use kinds::types::Kind;
 use verdicts::verdict::Verdict;
 ghost use mathlib.Core.Path.{_≡_};
-ghost use Rattle.shown.specs.Status.{isOff, shownBy, firstByte, fanStatus, temperatureStatus, voltageStatus, currentStatus, statusBytes, fanBits, temperatureBits, voltageBits, currentBits, bitsOf, readingOf, offOf, shownOf, codeAllowed, restClear, statusClear, overallClear};
+ghost use Rattle.shown.specs.Status.{isOff, shownBy, firstByte, fanStatus, temperatureStatus, electricStatus, voltageStatus, currentStatus, statusBytes, fanBits, temperatureBits, voltageBits, currentBits, bitsOf, readingOf, offOf, shownOf, codeAllowed, restClear, statusClear, overallClear};
 
 pub struct Shown {
     pub set: Settings,
@@ -110,11 +110,10 @@ fn temperature_status(x: Shown) -> [u8; 4]
     ]
 }
 
-fn voltage_status(x: Shown) -> [u8; 4]
-    ensures { λ r. ⌜ r ≡ voltageStatus x ⌝ }
+// A voltage or a current, with its limit bits.
+fn electric_status(x: Shown, limits: u8) -> [u8; 4]
+    ensures { λ r. ⌜ r ≡ electricStatus x limits ⌝ }
 {
-    let v = x.verdict;
-    let limits = bits::nibble(v.highwarn, v.lowwarn, v.highcrit, v.lowcrit);
     [
         first_byte(x),
         bits::join(bits::nibble(x.set.ident, x.set.fail, false, false), limits),
@@ -123,17 +122,21 @@ fn voltage_status(x: Shown) -> [u8; 4]
     ]
 }
 
+fn voltage_status(x: Shown) -> [u8; 4]
+    ensures { λ r. ⌜ r ≡ voltageStatus x ⌝ }
+{
+    let v = x.verdict;
+    electric_status(
+        x,
+        bits::nibble(v.highwarn, v.lowwarn, v.highcrit, v.lowcrit),
+    )
+}
+
 fn current_status(x: Shown) -> [u8; 4]
     ensures { λ r. ⌜ r ≡ currentStatus x ⌝ }
 {
     let v = x.verdict;
-    let limits = bits::nibble(v.highwarn, false, v.highcrit, false);
-    [
-        first_byte(x),
-        bits::join(bits::nibble(x.set.ident, x.set.fail, false, false), limits),
-        (x.reading / 256 % 256) as u8,
-        (x.reading % 256) as u8,
-    ]
+    electric_status(x, bits::nibble(v.highwarn, false, v.highcrit, false))
 }
 
 // The code, and the limit bits at the places where the type shows them.

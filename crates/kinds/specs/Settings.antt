@@ -10,29 +10,25 @@ use Rattle.kinds.specs.declared.types.Kind.{Kind}
 use Rattle.kinds.specs.declared.types.Kind.the-variants.{Cooling, Temperature, Voltage, Current}
 use Rattle.kinds.specs.declared.settings.Settings.{Settings}
 
--- byte 0: bit 6 PRDFAIL, 5 DISABLED, 4 SWAP; byte 1: bit 7 IDENT; byte 3: bit 6 FAIL, bit 5 ON, bits 2 to 0 SPEED
-abbrev pub fanSettings : List ℕ → Settings
-fanSettings e = record {
+-- what every type has in one place: byte 0 bit 6 PRDFAIL, 5 DISABLED, 4 SWAP; byte 1 bit 7 IDENT
+abbrev pub settingsWith : List ℕ → Bool → Bool → ℕ → Settings
+settingsWith e f o n = record {
   prdfail = bit 6 (getD e 0 0);
   disabled = bit 5 (getD e 0 0);
   swap = bit 4 (getD e 0 0);
   ident = bit 7 (getD e 1 0);
-  fail = bit 6 (getD e 3 0);
-  on = bit 5 (getD e 3 0);
-  speed = getD e 3 0 % 8;
+  fail = f;
+  on = o;
+  speed = n;
 }
 
--- byte 0: bit 6 PRDFAIL, 5 DISABLED, 4 SWAP; byte 1: bit 7 IDENT, bit 6 FAIL
+-- a fan: byte 3 bit 6 FAIL, bit 5 ON, bits 2 to 0 SPEED
+abbrev pub fanSettings : List ℕ → Settings
+fanSettings e = settingsWith e (bit 6 (getD e 3 0)) (bit 5 (getD e 3 0)) (getD e 3 0 % 8)
+
+-- a sensor: byte 1 bit 6 FAIL
 abbrev pub sensorSettings : List ℕ → Settings
-sensorSettings e = record {
-  prdfail = bit 6 (getD e 0 0);
-  disabled = bit 5 (getD e 0 0);
-  swap = bit 4 (getD e 0 0);
-  ident = bit 7 (getD e 1 0);
-  fail = bit 6 (getD e 1 0);
-  on = false;
-  speed = 0;
-}
+sensorSettings e = settingsWith e (bit 6 (getD e 1 0)) false 0
 
 unfoldable pub settingsOf : Kind → List ℕ → Settings
 settingsOf Cooling e = fanSettings e

@@ -1,7 +1,7 @@
 // What an element is set to, as a record and as the four bytes that the shelf stores.
 use crate::types::Kind;
 ghost use mathlib.Core.Path.{_≡_};
-ghost use Rattle.kinds.specs.Settings.{fanSettings, sensorSettings, settingsOf, fanBytes, sensorBytes, settingsBytes, requestsClear, speedFormed, settingsFormed};
+ghost use Rattle.kinds.specs.Settings.{settingsWith, fanSettings, sensorSettings, settingsOf, fanBytes, sensorBytes, settingsBytes, requestsClear, speedFormed, settingsFormed};
 
 pub struct Settings {
     pub prdfail: bool,
@@ -33,32 +33,31 @@ impl Settings {
     }
 }
 
-fn of_fan(e: [u8; 4]) -> Settings
-    ensures { λ r. ⌜ r ≡ fanSettings e ⌝ }
+// The bits that every type has in one place, with the type's own.
+fn with(e: [u8; 4], fail: bool, on: bool, speed: u8) -> Settings
+    ensures { λ r. ⌜ r ≡ settingsWith e fail on speed ⌝ }
 {
     Settings {
         prdfail: e[0] >> 6 & 1 == 1,
         disabled: e[0] >> 5 & 1 == 1,
         swap: e[0] >> 4 & 1 == 1,
         ident: e[1] >> 7 & 1 == 1,
-        fail: e[3] >> 6 & 1 == 1,
-        on: e[3] >> 5 & 1 == 1,
-        speed: e[3] & 7,
+        fail,
+        on,
+        speed,
     }
+}
+
+fn of_fan(e: [u8; 4]) -> Settings
+    ensures { λ r. ⌜ r ≡ fanSettings e ⌝ }
+{
+    with(e, e[3] >> 6 & 1 == 1, e[3] >> 5 & 1 == 1, e[3] & 7)
 }
 
 fn of_sensor(e: [u8; 4]) -> Settings
     ensures { λ r. ⌜ r ≡ sensorSettings e ⌝ }
 {
-    Settings {
-        prdfail: e[0] >> 6 & 1 == 1,
-        disabled: e[0] >> 5 & 1 == 1,
-        swap: e[0] >> 4 & 1 == 1,
-        ident: e[1] >> 7 & 1 == 1,
-        fail: e[1] >> 6 & 1 == 1,
-        on: false,
-        speed: 0,
-    }
+    with(e, e[1] >> 6 & 1 == 1, false, 0)
 }
 
 fn fan_bytes(s: Settings) -> [u8; 4]

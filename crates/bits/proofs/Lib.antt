@@ -2,3 +2,4 @@ pub mod Logic
 pub mod Halves
 pub mod Widths
 pub mod Placed
+pub mod Rows

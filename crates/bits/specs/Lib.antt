@@ -2,3 +2,4 @@ pub mod Choice
 pub mod Bits
 pub mod Numbers
 pub mod Places
+pub mod Rows

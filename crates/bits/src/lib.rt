@@ -8,6 +8,7 @@ ghost use lib.ListN.{getD};
 ghost use Rattle.bits.specs.Bits.{nibble, join};
 ghost use Rattle.bits.specs.Places.{fourAt, putFour, twoAt};
 ghost use Rattle.bits.specs.Numbers.{big};
+ghost use Rattle.bits.specs.Rows.{bytesAt, putBytes};
 
 // Four flags as half a byte, the first the highest.
 pub fn nibble(a: bool, b: bool, c: bool, d: bool) -> u8
@@ -51,6 +52,20 @@ pub fn put_four(s: &mut [u8], at: u32, f: [u8; 4])
         s[k + 1] = f[1];
         s[k + 2] = f[2];
         s[k + 3] = f[3];
+    }
+}
+
+// Copies n bytes.
+pub fn copy(from: &[u8], at: u32, to: &mut [u8], place: u32, n: u32)
+    ensures { λ _. ⌜ now (to .exit) ≡ putBytes (now (to .entry)) place (bytesAt (now (from .entry)) at n) ⌝ }
+{
+    let k = place as usize;
+    if k + n as usize <= to.len() {
+        let mut i: usize = 0;
+        while i < n as usize {
+            to[k + i] = get(from, at as usize + i);
+            i += 1;
+        }
     }
 }
 

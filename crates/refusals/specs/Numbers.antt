@@ -4,6 +4,8 @@ use Rattle.refusals.specs.declared.Refusal.{Refusal}
 use Rattle.refusals.specs.declared.Refusal.the-variants.{ShelfNotWellFormed, PageTooShort, PageCode, PageLength, Generation, NotAllowed, NoSuchThreshold, ThresholdOrder, WantedList, Unreachable, OutputTooShort}
 use Rattle.refusals.specs.declared.Answer.{Answer}
 use Rattle.refusals.specs.declared.Answer.the-variants.{Accepted, Refused}
+use Rattle.refusals.specs.declared.Written.{Written}
+use Rattle.refusals.specs.declared.Written.the-variants as written
 
 abbrev pub numberOf : Refusal → ℕ
 numberOf ShelfNotWellFormed = 1
@@ -21,3 +23,12 @@ numberOf OutputTooShort = 11
 abbrev pub answerNumber : Answer → ℕ
 answerNumber Accepted = 0
 answerNumber (Refused r) = numberOf r
+
+abbrev pub writtenNumber : Written → ℕ
+writtenNumber (written.Bytes n) = 0
+writtenNumber (written.Refused r) = numberOf r
+
+-- a write reports the bytes written, 0 if refused
+abbrev pub bytesWritten : Written → ℕ
+bytesWritten (written.Bytes n) = n
+bytesWritten (written.Refused r) = 0

@@ -1,8 +1,9 @@
-// The refusals, and the answer of a call that hands nothing back.
+// The refusals, and the answers of calls: of one that tests or acts, and of one that writes.
 //
 // A refusal is a value with a number; every promise speaks of the value, and `numberOf` says which number it is.
 ghost use mathlib.Core.Path.{_≡_};
-ghost use Rattle.refusals.specs.Numbers.{numberOf, answerNumber};
+ghost use Rattle.refusals.specs.Numbers.{numberOf, answerNumber, writtenNumber, bytesWritten};
+ghost use Rattle.refusals.specs.Outcomes.{fitted};
 
 pub enum Refusal {
     ShelfNotWellFormed,
@@ -20,6 +21,11 @@ pub enum Refusal {
 
 pub enum Answer {
     Accepted,
+    Refused(Refusal),
+}
+
+pub enum Written {
+    Bytes(u32),
     Refused(Refusal),
 }
 
@@ -52,5 +58,38 @@ impl Answer {
             return 0;
         };
         refusal.number()
+    }
+}
+
+impl Written {
+    // Whether a page of so many bytes is written into an output buffer of this length.
+    pub fn fit(bytes: u32, room: usize) -> Written
+        ensures { λ r. ⌜ r ≡ fitted bytes room ⌝ }
+    {
+        if bytes as usize <= room {
+            Written::Bytes(bytes)
+        } else {
+            Written::Refused(Refusal::OutputTooShort)
+        }
+    }
+
+    // The refusal's number, or 0.
+    pub fn number(self) -> u8
+        ensures { λ r. ⌜ r ≡ writtenNumber self ⌝ }
+    {
+        let Written::Refused(refusal) = self else {
+            return 0;
+        };
+        refusal.number()
+    }
+
+    // The bytes written, 0 if refused.
+    pub fn bytes(self) -> u32
+        ensures { λ r. ⌜ r ≡ bytesWritten self ⌝ }
+    {
+        let Written::Bytes(n) = self else {
+            return 0;
+        };
+        n
     }
 }

@@ -1,78 +1,109 @@
--- Opening a shelf, stage by stage: the first test that fails refuses it. Assumes nothing.
+-- Opening a shelf or a configuration, stage by stage: the first test that fails refuses it. Assumes nothing.
 use mathlib.Core.Path.{_≡_, refl, sym, ap, _∙_}
 use mathlib.Core.Bool.{Bool, true, false, _&&_}
 use mathlib.Core.List.{List}
 use Prim.Native.Nat.{ℕ}
 use native.Mathlib.Omega.{arith}
-use Rattle.bits.specs.Choice.{pick}
-use Rattle.bits.proofs.Logic.{and-both, pick-yes, pick-no}
+use lib.Dec.{leb, eqb}
+use lib.ListN.{length}
+use Rattle.bits.proofs.Logic.{and-both}
 use Rattle.shelf.specs.declared.opening.Sizes.{Sizes}
+use Rattle.shelf.specs.declared.opening.Opened.{Opened}
 use Rattle.shelf.specs.declared.opening.Opened.the-variants.{Shelf, NotWellFormed}
+use Rattle.shelf.specs.Limits.{mostElements, elementPlace}
 use Rattle.shelf.specs.Types.{typesOf, elementsOf}
-use Rattle.shelf.specs.Formed.{headFormed, typesFormed, sizeFormed, elementsFormed, wellFormed, opened}
+use Rattle.shelf.specs.Formed.{headFormed, typesFormed, elementsFormed, frontFormed, wellFormed, configurationFormed, sizesIf, fronted, opened, configurationOpened}
 
 no-right : (a b : Bool) → b ≡ false → a && b ≡ false
 no-right true b e = e
 no-right false b e = refl
 
--- the four tests in their order: each that fails makes the whole fail
-stop1 : (a b c d : Bool) → a ≡ false → ((a && b) && c) && d ≡ false
-stop1 a b c d e = rw e
-
-stop2 : (a b c d : Bool) → b ≡ false → ((a && b) && c) && d ≡ false
-stop2 true b c d e = rw e
-stop2 false b c d e = refl
-
-stop3 : (a b c d : Bool) → c ≡ false → ((a && b) && c) && d ≡ false
-stop3 a b c d e = rw (no-right (a && b) c e)
-
-stop4 : (a b c d : Bool) → d ≡ false → ((a && b) && c) && d ≡ false
-stop4 a b c d e = no-right ((a && b) && c) d e
-
+-- what an answer says of the test behind it
 module _ (s : List ℕ) where
-  refused : wellFormed s ≡ false → NotWellFormed ≡ opened s
-  unfolding opened
-  refused e = sym (pick-no (wellFormed s) (Shelf (record { types = typesOf s; elements = elementsOf s })) NotWellFormed e)
+  said-yes : (t : Bool) {z : Sizes} → sizesIf t s ≡ Shelf z → (t ≡ true) × (z .types ≡ typesOf s) × (z .elements ≡ elementsOf s)
+  said-yes true {z} q =
+      let p : z ≡ record { types = typesOf s; elements = elementsOf s } = cc in
+      (refl, ap (λ (x : Sizes). x .types) p, ap (λ (x : Sizes). x .elements) p)
+  said-yes false {z} q = let e : _≡_ {A = ℕ} 0 1 = cc in absurd (omega arith)
 
-  pub no-head : headFormed s ≡ false → NotWellFormed ≡ opened s
-  unfolding wellFormed
-  no-head e = refused (stop1 (headFormed s) (typesFormed s (typesOf s)) (sizeFormed s (elementsOf s)) (elementsFormed s (elementsOf s)) e)
+  said-no : (t : Bool) → sizesIf t s ≡ NotWellFormed → t ≡ false
+  said-no true q = let e : _≡_ {A = ℕ} 0 1 = cc in absurd (omega arith)
+  said-no false q = refl
 
-  pub no-types : (n : ℕ) → n ≡ typesOf s → typesFormed s n ≡ false → NotWellFormed ≡ opened s
-  unfolding wellFormed
-  no-types n q e = refused (stop2 (headFormed s) (typesFormed s (typesOf s)) (sizeFormed s (elementsOf s)) (elementsFormed s (elementsOf s)) (ap (typesFormed s) (sym q) ∙ e))
+  yes : (t : Bool) {z : Sizes} → z .types ≡ typesOf s → z .elements ≡ elementsOf s → t ≡ true → Shelf z ≡ sizesIf t s
+  yes t {z} p q e =
+      let r : z ≡ record { types = typesOf s; elements = elementsOf s } = λ i. record { types = p i; elements = q i } in
+      rw (e, r)
 
-  pub no-size : (m : ℕ) → m ≡ elementsOf s → sizeFormed s m ≡ false → NotWellFormed ≡ opened s
-  unfolding wellFormed
-  no-size m q e = refused (stop3 (headFormed s) (typesFormed s (typesOf s)) (sizeFormed s (elementsOf s)) (elementsFormed s (elementsOf s)) (ap (sizeFormed s) (sym q) ∙ e))
+  no : (t : Bool) → t ≡ false → NotWellFormed ≡ sizesIf t s
+  no t e = rw e
 
-  pub no-elements : (m : ℕ) → m ≡ elementsOf s → elementsFormed s m ≡ false → NotWellFormed ≡ opened s
-  unfolding wellFormed
-  no-elements m q e = refused (stop4 (headFormed s) (typesFormed s (typesOf s)) (sizeFormed s (elementsOf s)) (elementsFormed s (elementsOf s)) (ap (elementsFormed s) (sym q) ∙ e))
-
-  pub all-passed : (n m : ℕ) → n ≡ typesOf s → m ≡ elementsOf s → headFormed s ≡ true → typesFormed s n ≡ true → sizeFormed s m ≡ true
-      → elementsFormed s m ≡ true → Shelf (record { types = n; elements = m }) ≡ opened s
-  unfolding wellFormed opened
-  all-passed n m p q a b c d =
-      rw (p, q)
-      (sym
-      (pick-yes (wellFormed s) (Shelf (record { types = typesOf s; elements = elementsOf s })) NotWellFormed
-      (and-both (and-both (and-both a (ap (typesFormed s) (sym p) ∙ b)) (ap (sizeFormed s) (sym q) ∙ c)) (ap (elementsFormed s) (sym q) ∙ d))))
-
-  -- what the answer says of the shelf
   pub formed-sizes : {z : Sizes} → opened s ≡ Shelf z → (wellFormed s ≡ true) × (z .types ≡ typesOf s) × (z .elements ≡ elementsOf s)
   unfolding opened
-  formed-sizes {z} e = go (wellFormed s) refl e
-    where
-      go : (t : Bool) → wellFormed s ≡ t → pick t (Shelf (record { types = typesOf s; elements = elementsOf s })) NotWellFormed ≡ Shelf z
-          → (wellFormed s ≡ true) × (z .types ≡ typesOf s) × (z .elements ≡ elementsOf s)
-      go true w q = let p : z ≡ record { types = typesOf s; elements = elementsOf s } = cc in (w, ap (λ (x : Sizes). x .types) p, ap (λ (x : Sizes). x .elements) p)
-      go false w q = let z : _≡_ {A = ℕ} 0 1 = cc in absurd (omega arith)
+  formed-sizes e = said-yes (wellFormed s) e
 
   pub not-formed : opened s ≡ NotWellFormed → wellFormed s ≡ false
   unfolding opened
-  not-formed e = go (wellFormed s) e
-    where
-      go : (t : Bool) → pick t (Shelf (record { types = typesOf s; elements = elementsOf s })) NotWellFormed ≡ NotWellFormed → t ≡ false
-      go true q = let z : _≡_ {A = ℕ} 0 1 = cc in absurd (omega arith)
-      go false q = refl
+  not-formed e = said-no (wellFormed s) e
+
+  pub configuration-sizes : {z : Sizes} → configurationOpened s ≡ Shelf z
+      → (configurationFormed s ≡ true) × (z .types ≡ typesOf s) × (z .elements ≡ elementsOf s)
+  unfolding configurationOpened
+  configuration-sizes e = said-yes (configurationFormed s) e
+
+  pub not-configuration : configurationOpened s ≡ NotWellFormed → configurationFormed s ≡ false
+  unfolding configurationOpened
+  not-configuration e = said-no (configurationFormed s) e
+
+  pub front-is : {a b : Bool} {n m : ℕ} {x : Bool} → a ≡ headFormed s → n ≡ typesOf s → b ≡ typesFormed s n → m ≡ elementsOf s
+      → (a && b) && leb m mostElements ≡ x → frontFormed s ≡ x
+  unfolding frontFormed
+  front-is p q r u e = rw (p, r, q, u) at e
+
+  pub front-yes : {z : Sizes} → z .types ≡ typesOf s → z .elements ≡ elementsOf s → frontFormed s ≡ true → Shelf z ≡ fronted s
+  unfolding fronted
+  front-yes p q e = yes (frontFormed s) p q e
+
+  pub front-no : frontFormed s ≡ false → NotWellFormed ≡ fronted s
+  unfolding fronted
+  front-no e = no (frontFormed s) e
+
+  module _ (f : fronted s ≡ NotWellFormed) where
+    pub no-front : NotWellFormed ≡ opened s
+    unfolding fronted opened wellFormed
+    no-front = no (wellFormed s) (rw (said-no (frontFormed s) f))
+
+    pub no-front-configuration : NotWellFormed ≡ configurationOpened s
+    unfolding fronted configurationOpened configurationFormed
+    no-front-configuration = no (configurationFormed s) (rw (said-no (frontFormed s) f))
+
+  module _ {z : Sizes} (f : fronted s ≡ Shelf z) where
+    at-front : (frontFormed s ≡ true) × (z .types ≡ typesOf s) × (z .elements ≡ elementsOf s)
+    unfolding fronted
+    at-front = said-yes (frontFormed s) f
+
+    pub no-length : eqb (length s) (elementPlace (z .elements)) ≡ false → NotWellFormed ≡ opened s
+    unfolding opened wellFormed
+    no-length e = no (wellFormed s) (rw (at-front .0, ap (λ n. eqb (length s) (elementPlace n)) (sym (at-front .2)) ∙ e))
+
+    pub no-elements : elementsFormed s (z .elements) ≡ false → NotWellFormed ≡ opened s
+    unfolding opened wellFormed
+    no-elements e =
+        no (wellFormed s)
+        (no-right (frontFormed s && eqb (length s) (elementPlace (elementsOf s))) (elementsFormed s (elementsOf s))
+        (ap (elementsFormed s) (sym (at-front .2)) ∙ e))
+
+    pub all-passed : eqb (length s) (elementPlace (z .elements)) ≡ true → elementsFormed s (z .elements) ≡ true → Shelf z ≡ opened s
+    unfolding opened wellFormed
+    all-passed l e =
+        yes (wellFormed s) (at-front .1) (at-front .2)
+        (and-both (and-both (at-front .0) (ap (λ n. eqb (length s) (elementPlace n)) (sym (at-front .2)) ∙ l))
+        (ap (elementsFormed s) (sym (at-front .2)) ∙ e))
+
+    pub is-configuration : eqb (length s) (elementPlace 0) ≡ true → Shelf z ≡ configurationOpened s
+    unfolding configurationOpened configurationFormed
+    is-configuration l = yes (configurationFormed s) (at-front .1) (at-front .2) (and-both (at-front .0) l)
+
+  pub no-configuration : eqb (length s) (elementPlace 0) ≡ false → NotWellFormed ≡ configurationOpened s
+  unfolding configurationOpened configurationFormed
+  no-configuration l = no (configurationFormed s) (no-right (frontFormed s) (eqb (length s) (elementPlace 0)) l)

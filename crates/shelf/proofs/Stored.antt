@@ -12,17 +12,14 @@ use Rattle.bits.proofs.Placed.{Outside, length-put, put-other, put-back}
 use Rattle.shelf.specs.Limits.{mostElements, elementPlace}
 use Rattle.shelf.specs.Types.{typesOf, elementsOf}
 use Rattle.shelf.specs.Elements.{settingsAt, thresholdsAt, settingsPut, thresholdsPut}
-use Rattle.shelf.specs.Formed.{headFormed, typesFormed, sizeFormed, elementsFormed, wellFormed}
+use Rattle.shelf.specs.Formed.{frontFormed, elementsFormed, wellFormed}
 
 -- a well-formed shelf has just the bytes that its elements need
 pub length-formed : (s : List ℕ) → wellFormed s ≡ true → length s ≡ elementPlace (elementsOf s)
-unfolding wellFormed sizeFormed
+unfolding wellFormed
 length-formed s h =
-    let n = elementsOf s in
-    let front = and-left ((headFormed s && typesFormed s (typesOf s)) && sizeFormed s n) (elementsFormed s n) h in
-    eqb-true (length s) (elementPlace n)
-    (and-right (leb n mostElements) (eqb (length s) (elementPlace n))
-    (and-right (headFormed s && typesFormed s (typesOf s)) (sizeFormed s n) front))
+    let l = eqb (length s) (elementPlace (elementsOf s)) in
+    eqb-true (length s) (elementPlace (elementsOf s)) (and-right (frontFormed s) l (and-left (frontFormed s && l) (elementsFormed s (elementsOf s)) h))
 
 -- so all sixteen bytes of each element stand in the block
 pub room : (s : List ℕ) (j : ℕ) → wellFormed s ≡ true → j < elementsOf s → elementPlace j + 16 ≤ length s

@@ -6,14 +6,14 @@ use Prim.Native.Nat.{ℕ, zero, suc, _+_, _<_, _≤_, _-_}
 use native.Mathlib.Numerals.{add-one}
 use native.Mathlib.Omega.{arith}
 use lib.Dec.{eqb, leb, ltb}
-use lib.ListN.{getD}
+use lib.ListN.{length, getD}
 use borrow.Author.Tests.{ltb-true, ltb-false, lt-ltb, eqb-true}
 use Rattle.bits.specs.Choice.{pick, firstBelow}
 use Rattle.bits.proofs.Logic.{never, and-left, and-right, below-at, first-passes, first-fails}
 use Rattle.kinds.specs.Types.{served}
-use Rattle.shelf.specs.Limits.{mostTypes, mostInType, mostText, typeSize, typePlace}
+use Rattle.shelf.specs.Limits.{mostTypes, mostElements, elementPlace, mostInType, mostText, typeSize, typePlace}
 use Rattle.shelf.specs.Types.{typesOf, typeCode, typeCount, textLength, before, elementsOf, within, typeOf}
-use Rattle.shelf.specs.Formed.{headFormed, typeFormed, typeByteEmpty, typeEmpty, slotFormed, textFormed, typesFormed, sizeFormed, elementsFormed, wellFormed}
+use Rattle.shelf.specs.Formed.{headFormed, typeFormed, typeByteEmpty, typeEmpty, slotFormed, textFormed, typesFormed, elementsFormed, frontFormed, wellFormed}
 use Rattle.shelf.proofs.Counts.{before-none, before-next}
 
 -- a test that passes cannot be one that fails
@@ -47,13 +47,18 @@ module _ (s : List ℕ) (j : ℕ) (h : j < elementsOf s) where
       go (suc t) e =
           rw (← (add-one t)) (ltb-false j (before s (t + 1)) (first-fails (within s j) mostTypes t (omega arith)))
 
-module _ (s : List ℕ) (j : ℕ) (w : wellFormed s ≡ true) (h : j < elementsOf s) where
+-- the front of a well-formed shelf is formed
+pub front-formed : (s : List ℕ) → wellFormed s ≡ true → frontFormed s ≡ true
+unfolding wellFormed
+front-formed s w =
+    let l = eqb (length s) (elementPlace (elementsOf s)) in
+    and-left (frontFormed s) l (and-left (frontFormed s && l) (elementsFormed s (elementsOf s)) w)
+
+module _ (s : List ℕ) (j : ℕ) (w : frontFormed s ≡ true) (h : j < elementsOf s) where
   slot : slotFormed s (typesOf s) (typeOf s j) ≡ true
-  unfolding wellFormed typesFormed
+  unfolding frontFormed typesFormed
   slot =
-      let n = elementsOf s in
-      let front = and-left ((headFormed s && typesFormed s (typesOf s)) && sizeFormed s n) (elementsFormed s n) w in
-      let types = and-right (headFormed s) (typesFormed s (typesOf s)) (and-left (headFormed s && typesFormed s (typesOf s)) (sizeFormed s n) front) in
+      let types = and-right (headFormed s) (typesFormed s (typesOf s)) (and-left (headFormed s && typesFormed s (typesOf s)) (leb (elementsOf s) mostElements) w) in
       below-at (slotFormed s (typesOf s)) mostTypes types (typeOf s j) (type-below s j h)
 
   -- a type past the last has no elements

@@ -69,13 +69,27 @@ elementFormed s j =
 unfoldable pub elementsFormed : List ℕ → ℕ → Bool
 elementsFormed s n = allBelow (elementFormed s) n
 
--- not too many elements in all, and just the bytes that they need
-unfoldable pub sizeFormed : List ℕ → ℕ → Bool
-sizeFormed s n = leb n mostElements && eqb (length s) (elementPlace n)
+-- what a configuration tells: the types, and not too many elements in all
+unfoldable pub frontFormed : List ℕ → Bool
+frontFormed s = (headFormed s && typesFormed s (typesOf s)) && leb (elementsOf s) mostElements
 
+-- the block has just the bytes that its elements need, and each of them is formed
 unfoldable pub wellFormed : List ℕ → Bool
-wellFormed s = ((headFormed s && typesFormed s (typesOf s)) && sizeFormed s (elementsOf s)) && elementsFormed s (elementsOf s)
+wellFormed s = (frontFormed s && eqb (length s) (elementPlace (elementsOf s))) && elementsFormed s (elementsOf s)
 
--- how many types and elements a shelf has, if it is well formed
+-- a configuration is the front of a shelf block, without its elements
+unfoldable pub configurationFormed : List ℕ → Bool
+configurationFormed s = frontFormed s && eqb (length s) (elementPlace 0)
+
+-- how many types and elements there are, if the test passed
+abbrev pub sizesIf : Bool → List ℕ → Opened
+sizesIf t s = pick t (Shelf (record { types = typesOf s; elements = elementsOf s })) NotWellFormed
+
+unfoldable pub fronted : List ℕ → Opened
+fronted s = sizesIf (frontFormed s) s
+
 unfoldable pub opened : List ℕ → Opened
-opened s = pick (wellFormed s) (Shelf (record { types = typesOf s; elements = elementsOf s })) NotWellFormed
+opened s = sizesIf (wellFormed s) s
+
+unfoldable pub configurationOpened : List ℕ → Opened
+configurationOpened s = sizesIf (configurationFormed s) s

@@ -6,7 +6,7 @@ use kinds::settings;
 use kinds::types::Kind;
 use verdicts::thresholds;
 ghost use mathlib.Core.Path.{_≡_};
-ghost use Rattle.shelf.specs.Formed.{headFormed, textByteFormed, textFormed, typeFormed, typeEmpty, slotFormed, typesFormed, sizeFormed, spareClear, elementFormed, elementsFormed, opened};
+ghost use Rattle.shelf.specs.Formed.{headFormed, textByteFormed, textFormed, typeFormed, typeEmpty, slotFormed, typesFormed, spareClear, elementFormed, elementsFormed, fronted, opened, configurationOpened};
 
 // How many types and elements a well-formed shelf has.
 pub struct Sizes {
@@ -22,21 +22,46 @@ pub enum Opened {
 pub fn open_shelf(shelf: &[u8]) -> Opened
     ensures { λ r. ⌜ r ≡ opened (now (shelf .entry)) ⌝ }
 {
-    if !head_formed(shelf) {
+    let front = front(shelf);
+    let Opened::Shelf(sizes) = front else {
+        return Opened::NotWellFormed;
+    };
+    if shelf.len() != limits::block_length(sizes.elements) {
         return Opened::NotWellFormed;
     }
-    let n = types::count(shelf);
-    if !types_formed(shelf, n) {
-        return Opened::NotWellFormed;
+    if elements_formed(shelf, sizes.elements) {
+        Opened::Shelf(sizes)
+    } else {
+        Opened::NotWellFormed
     }
+}
+
+// A configuration is the front of a shelf block, without its elements.
+pub fn open_configuration(configuration: &[u8]) -> Opened
+    ensures { λ r. ⌜ r ≡ configurationOpened (now (configuration .entry)) ⌝ }
+{
+    let front = front(configuration);
+    let Opened::Shelf(sizes) = front else {
+        return Opened::NotWellFormed;
+    };
+    if configuration.len() == limits::block_length(0) {
+        Opened::Shelf(sizes)
+    } else {
+        Opened::NotWellFormed
+    }
+}
+
+// What a configuration tells is well formed, whatever stands behind it.
+fn front(shelf: &[u8]) -> Opened
+    ensures { λ r. ⌜ r ≡ fronted (now (shelf .entry)) ⌝ }
+{
+    let types = types::count(shelf);
     let elements = types::all_elements(shelf);
-    if !size_formed(shelf, elements) {
-        return Opened::NotWellFormed;
+    if head_formed(shelf) & types_formed(shelf, types) & (elements <= limits::MOST_ELEMENTS) {
+        Opened::Shelf(Sizes { types, elements })
+    } else {
+        Opened::NotWellFormed
     }
-    if !elements_formed(shelf, elements) {
-        return Opened::NotWellFormed;
-    }
-    Opened::Shelf(Sizes { types: n, elements })
 }
 
 // There is a type, there are not too many, and the three bytes after their number are zero.
@@ -118,13 +143,6 @@ fn types_formed(shelf: &[u8], n: u16) -> bool
         t += 1;
     }
     true
-}
-
-// The block has just the bytes that n elements need, and they are not too many.
-fn size_formed(shelf: &[u8], n: u16) -> bool
-    ensures { λ r. ⌜ r ≡ sizeFormed (now (shelf .entry)) n ⌝ }
-{
-    (n <= limits::MOST_ELEMENTS) & (shelf.len() == limits::block_length(n))
 }
 
 fn element_formed(shelf: &[u8], j: u16) -> bool

@@ -9,7 +9,7 @@ use lib.ListN.{getD}
 use borrow.Author.Tests.{eqb-true, leb-true, le-leb, not-true}
 use Rattle.bits.specs.Choice.{pick}
 use Rattle.bits.specs.Bits.{bit, only, nibble, join}
-use Rattle.bits.proofs.Logic.{and-left, and-right, and-both, below-at}
+use Rattle.bits.proofs.Logic.{never, and-left, and-right, and-both, below-at}
 use Rattle.bits.proofs.Halves.{nibble-bits, nibble-small, flags-high, flags-low, join-low, join-three, join-mod16, low-three, again-byte}
 use Rattle.bits.proofs.Widths.{big-bytes}
 use Rattle.kinds.specs.declared.types.Kind.{Kind}
@@ -20,18 +20,24 @@ use Rattle.shown.specs.declared.Shown.{Shown}
 use Rattle.kinds.specs.Types.{readingAllowed}
 use Rattle.kinds.specs.Settings.{settingsOf}
 use Rattle.verdicts.specs.Verdict.{codeFor, judged, unlimited, above, below, over, under, verdictOf}
-use Rattle.shown.specs.Status.{isOff, shownBy, firstByte, statusBytes, bitsOf, readingOf, offOf, shownOf, codeAllowed, restClear, statusClear, fanless, fieldsShown, showable}
+use Rattle.shown.specs.Status.{isOff, shownBy, firstByte, statusBytes, bitsOf, readingOf, offOf, shownOf, codeAllowed, firstClear, secondClear, fourthClear, firstOf, offending, isHigh, isLow, fanless, fieldsShown, showable}
 use Rattle.kinds.proofs.Back.{Fanless, Storable, fan-back, sensor-back, four, ident-fail-again, ident-fail-only}
 
-neither : (a b : Bool) → not a && not b ≡ true → (a ≡ false) × (b ≡ false)
-neither a b t = (not-true a (and-left (not a) (not b) t), not-true b (and-right (not a) (not b) t))
+none : (a b : Bool) → a || b ≡ false → (a ≡ false) × (b ≡ false)
+none true b e = never e
+none false b e = (refl, e)
+
+neither : (a b : Bool) → not (a || b) ≡ true → (a ≡ false) × (b ≡ false)
+neither a b t = none a b (not-true (a || b) t)
 
 -- the fields that fans alone show, from the test
 fanless-set : (x : Shown) → fanless x ≡ true → Fanless (x .set) × (x .off ≡ false)
 fanless-set x t =
-    let u = not (x .set .on) && not (x .off) in
-    let n = neither (x .set .on) (x .off) (and-left u (eqb (x .set .speed) 0) t) in
-    ((n .0, eqb-true (x .set .speed) 0 (and-right u (eqb (x .set .speed) 0) t)), n .1)
+    let a = not (x .set .on) in
+    let b = not (x .off) in
+    let z = eqb (x .set .speed) 0 in
+    let u = and-left (a && b) z t in
+    ((not-true (x .set .on) (and-left a b u), eqb-true (x .set .speed) 0 (and-right (a && b) z t)), not-true (x .off) (and-right a b u))
 
 set-back : (k : Kind) (x : Shown) → fieldsShown k x ≡ true → settingsOf k (statusBytes k x) ≡ x .set
 unfolding settingsOf statusBytes fieldsShown
@@ -56,11 +62,9 @@ bits-back : (k : Kind) (x : Shown) → codeAllowed (x .verdict .code) ≡ true �
 unfolding bitsOf statusBytes fieldsShown
 bits-back Cooling x a t =
     let v = x .verdict in
-    let high = not (v .highcrit) && not (v .highwarn) in
-    let low = not (v .lowwarn) && not (v .lowcrit) in
-    let u = and-right (leb (x .set .speed) 7) (high && low) t in
-    let h = neither (v .highcrit) (v .highwarn) (and-left high low u) in
-    let l = neither (v .lowwarn) (v .lowcrit) (and-right high low u) in
+    let u = neither (isHigh v) (isLow v) (and-right (leb (x .set .speed) 7) (not (isHigh v || isLow v)) t) in
+    let h = none (v .highcrit) (v .highwarn) (u .0) in
+    let l = none (v .lowwarn) (v .lowcrit) (u .1) in
     λ i. record {
       code = code-back x a i;
       highcrit = sym (h .0) i;
@@ -79,7 +83,7 @@ bits-back Voltage x a t =
 bits-back Current x a t =
     let v = x .verdict in
     let b = flags-low (nibble (x .set .ident) (x .set .fail) false false) (v .highwarn) false (v .highcrit) false in
-    let l = neither (v .lowwarn) (v .lowcrit) (and-right (fanless x) (not (v .lowwarn) && not (v .lowcrit)) t) in
+    let l = neither (v .lowwarn) (v .lowcrit) (and-right (fanless x) (not (isLow v)) t) in
     λ i. record { code = code-back x a i; highcrit = b .2 i; highwarn = b .0 i; lowwarn = sym (l .0) i; lowcrit = sym (l .1) i }
 
 reading-back : (k : Kind) (x : Shown) → x .reading < 65536 → readingAllowed k (x .reading) ≡ true → readingOf k (statusBytes k x) ≡ x .reading
@@ -118,41 +122,48 @@ first-again : (a : ℕ) → a < 256 → only (6 ∷ 5 ∷ 4 ∷ 3 ∷ 2 ∷ 1 �
 first-again = again-byte (6 ∷ 5 ∷ 4 ∷ 3 ∷ 2 ∷ 1 ∷ 0 ∷ []) (λ a. join (nibble false (bit 6 a) (bit 5 a) (bit 4 a)) (a % 16)) refl
 
 module _ (a b c d : ℕ) (ha : a < 256) (hb : b < 256) (hc : c < 256) (hd : d < 256) where
-  rest-again : (k : Kind) → only (6 ∷ 5 ∷ 4 ∷ 3 ∷ 2 ∷ 1 ∷ 0 ∷ []) a ≡ true → restClear k (a ∷ b ∷ c ∷ d ∷ []) ≡ true
+  rest-again : (k : Kind) → only (6 ∷ 5 ∷ 4 ∷ 3 ∷ 2 ∷ 1 ∷ 0 ∷ []) a ≡ true → secondClear k b ≡ true → fourthClear k d ≡ true
       → statusBytes k (shownOf k (a ∷ b ∷ c ∷ d ∷ [])) ≡ a ∷ b ∷ c ∷ d ∷ []
-  unfolding shownOf statusBytes settingsOf bitsOf readingOf offOf restClear
-  rest-again Cooling f t =
-      let p = only (7 ∷ 2 ∷ 1 ∷ 0 ∷ []) b in
-      let q = only (6 ∷ 5 ∷ 4 ∷ 2 ∷ 1 ∷ 0 ∷ []) d in
+  unfolding shownOf statusBytes settingsOf bitsOf readingOf offOf secondClear fourthClear
+  rest-again Cooling f p q =
       let u : (b % 8 * 256 + c) / 256 % 8 ≡ b % 8 = omega arith in
-      let v = again-byte (7 ∷ 2 ∷ 1 ∷ 0 ∷ []) (λ b. join (nibble (bit 7 b) false false false) (b % 8)) refl b hb (and-left p q t) in
+      let v = again-byte (7 ∷ 2 ∷ 1 ∷ 0 ∷ []) (λ b. join (nibble (bit 7 b) false false false) (b % 8)) refl b hb p in
       four (first-again a ha f) (ap (λ n. join (nibble (bit 7 b) false false false) n) u ∙ v) (omega arith)
-      (again-byte (6 ∷ 5 ∷ 4 ∷ 2 ∷ 1 ∷ 0 ∷ []) (λ d. join (nibble false (bit 6 d) (bit 5 d) (bit 4 d)) (d % 8 % 8)) refl d hd (and-right p q t))
-  rest-again Temperature f t =
-      let p = only (7 ∷ 6 ∷ []) b in
-      let q = only (3 ∷ 2 ∷ 1 ∷ 0 ∷ []) d in
-      four (first-again a ha f) (ident-fail-again b hb (and-left p q t)) (omega arith)
-      (again-byte (3 ∷ 2 ∷ 1 ∷ 0 ∷ []) (λ d. nibble (bit 3 d) (bit 2 d) (bit 1 d) (bit 0 d)) refl d hd (and-right p q t))
-  rest-again Voltage f t =
+      (again-byte (6 ∷ 5 ∷ 4 ∷ 2 ∷ 1 ∷ 0 ∷ []) (λ d. join (nibble false (bit 6 d) (bit 5 d) (bit 4 d)) (d % 8 % 8)) refl d hd q)
+  rest-again Temperature f p q =
+      four (first-again a ha f) (ident-fail-again b hb p) (omega arith)
+      (again-byte (3 ∷ 2 ∷ 1 ∷ 0 ∷ []) (λ d. nibble (bit 3 d) (bit 2 d) (bit 1 d) (bit 0 d)) refl d hd q)
+  rest-again Voltage f p q =
       four (first-again a ha f)
-      (again-byte (7 ∷ 6 ∷ 3 ∷ 2 ∷ 1 ∷ 0 ∷ []) (λ b. join (nibble (bit 7 b) (bit 6 b) false false) (nibble (bit 3 b) (bit 2 b) (bit 1 b) (bit 0 b))) refl b hb t)
+      (again-byte (7 ∷ 6 ∷ 3 ∷ 2 ∷ 1 ∷ 0 ∷ []) (λ b. join (nibble (bit 7 b) (bit 6 b) false false) (nibble (bit 3 b) (bit 2 b) (bit 1 b) (bit 0 b))) refl b hb p)
       (omega arith)
       (omega arith)
-  rest-again Current f t =
+  rest-again Current f p q =
       four (first-again a ha f)
-      (again-byte (7 ∷ 6 ∷ 3 ∷ 1 ∷ []) (λ b. join (nibble (bit 7 b) (bit 6 b) false false) (nibble (bit 3 b) false (bit 1 b) false)) refl b hb t)
+      (again-byte (7 ∷ 6 ∷ 3 ∷ 1 ∷ []) (λ b. join (nibble (bit 7 b) (bit 6 b) false false) (nibble (bit 3 b) false (bit 1 b) false)) refl b hb p)
       (omega arith)
       (omega arith)
 
--- four bytes with no bit that the type doesn't show are those that show what they say
-pub shown-again : (k : Kind) (a b c d : ℕ) → a < 256 → b < 256 → c < 256 → d < 256 → statusClear k (a ∷ b ∷ c ∷ d ∷ []) ≡ true
+-- none of four is refused exactly if each passes
+pub all-four : (a b c d : Bool) → firstOf a b c d ≡ 4 → (a ≡ true) × (b ≡ true) × (c ≡ true) × (d ≡ true)
+unfolding firstOf
+all-four true true true true e = (refl, refl, refl, refl)
+all-four true true true false e = absurd (omega arith)
+all-four true true false d e = absurd (omega arith)
+all-four true false c d e = absurd (omega arith)
+all-four false b c d e = absurd (omega arith)
+
+pub four-pass : {a b c d : Bool} → a ≡ true → b ≡ true → c ≡ true → d ≡ true → firstOf a b c d ≡ 4
+unfolding firstOf
+four-pass p q r s = rw (p, q, r, s)
+
+-- four bytes of which none is refused are those that show what they say
+pub shown-again : (k : Kind) (a b c d : ℕ) → a < 256 → b < 256 → c < 256 → d < 256 → offending k (a ∷ b ∷ c ∷ d ∷ []) ≡ 4
     → statusBytes k (shownOf k (a ∷ b ∷ c ∷ d ∷ [])) ≡ a ∷ b ∷ c ∷ d ∷ []
-unfolding statusClear
+unfolding offending
 shown-again k a b c d ha hb hc hd t =
-    let f = only (6 ∷ 5 ∷ 4 ∷ 3 ∷ 2 ∷ 1 ∷ 0 ∷ []) a in
-    let r = restClear k (a ∷ b ∷ c ∷ d ∷ []) in
-    rest-again a b c d ha hb hc hd k (and-left f (codeAllowed (a % 16)) (and-left (f && codeAllowed (a % 16)) r t))
-    (and-right (f && codeAllowed (a % 16)) r t)
+    let h = all-four (firstClear a) (secondClear k b) true (fourthClear k d) t in
+    rest-again a b c d ha hb hc hd k (and-left (only (6 ∷ 5 ∷ 4 ∷ 3 ∷ 2 ∷ 1 ∷ 0 ∷ []) a) (codeAllowed (a % 16)) (h .0)) (h .1) (h .3)
 
 code-picked : (p q : Bool) → codeAllowed (codeFor p q) ≡ true
 code-picked true q = refl
@@ -214,31 +225,37 @@ fan-low f on off n =
     let h = flags-high false f on off (n % 8) in
     let l = join-low (nibble false f on off) (n % 8) in rw (h .0, l .0, low-three n)
 
-rest-shown : (k : Kind) (x : Shown) → restClear k (statusBytes k x) ≡ true
-unfolding restClear statusBytes
-rest-shown Cooling x = and-both (fan-high (x .set .ident) (x .reading / 256)) (fan-low (x .set .fail) (x .set .on) (x .off) (x .set .speed))
-rest-shown Temperature x =
-    let v = x .verdict in
-    let n = nibble (v .highcrit) (v .highwarn) (v .lowcrit) (v .lowwarn) in
-    and-both (ident-fail-only (x .set .ident) (x .set .fail))
-    (below-at (only (3 ∷ 2 ∷ 1 ∷ 0 ∷ [])) 16 refl n (nibble-small (v .highcrit) (v .highwarn) (v .lowcrit) (v .lowwarn)))
-rest-shown Voltage x =
+second-shown : (k : Kind) (x : Shown) → secondClear k (getD (statusBytes k x) 1 0) ≡ true
+unfolding secondClear statusBytes
+second-shown Cooling x = fan-high (x .set .ident) (x .reading / 256)
+second-shown Temperature x = ident-fail-only (x .set .ident) (x .set .fail)
+second-shown Voltage x =
     let v = x .verdict in
     let h = flags-high (x .set .ident) (x .set .fail) false false (nibble (v .highwarn) (v .lowwarn) (v .highcrit) (v .lowcrit)) in
     rw (h .2, h .3)
-rest-shown Current x =
+second-shown Current x =
     let v = x .verdict in
     let h = flags-high (x .set .ident) (x .set .fail) false false (nibble (v .highwarn) false (v .highcrit) false) in
     let l = flags-low (nibble (x .set .ident) (x .set .fail) false false) (v .highwarn) false (v .highcrit) false in
     rw (h .2, h .3, l .1, l .3)
 
--- bytes that show what can be shown have no bit that the type doesn't show
-pub shown-clear : (k : Kind) (x : Shown) → showable k x ≡ true → statusClear k (statusBytes k x) ≡ true
-unfolding showable statusClear
+fourth-shown : (k : Kind) (x : Shown) → fourthClear k (getD (statusBytes k x) 3 0) ≡ true
+unfolding fourthClear statusBytes
+fourth-shown Cooling x = fan-low (x .set .fail) (x .set .on) (x .off) (x .set .speed)
+fourth-shown Temperature x =
+    let v = x .verdict in
+    let n = nibble (v .highcrit) (v .highwarn) (v .lowcrit) (v .lowwarn) in
+    below-at (only (3 ∷ 2 ∷ 1 ∷ 0 ∷ [])) 16 refl n (nibble-small (v .highcrit) (v .highwarn) (v .lowcrit) (v .lowwarn))
+fourth-shown Voltage x = refl
+fourth-shown Current x = refl
+
+-- of bytes that show what can be shown none is refused
+pub shown-clear : (k : Kind) (x : Shown) → showable k x ≡ true → offending k (statusBytes k x) ≡ 4
+unfolding showable offending
 shown-clear k x t =
     let a = codeAllowed (x .verdict .code) in
     let r = readingAllowed k (x .reading) in
-    and-both (first-clear k x (and-left a r (and-left (a && r) (fieldsShown k x) t))) (rest-shown k x)
+    four-pass (first-clear k x (and-left a r (and-left (a && r) (fieldsShown k x) t))) (second-shown k x) refl (fourth-shown k x)
 
 fields-clear : (k : Kind) (e : List ℕ) → fieldsShown k (shownOf k e) ≡ true
 unfolding fieldsShown shownOf bitsOf offOf settingsOf
@@ -261,12 +278,11 @@ code-clear Temperature a b c d = refl
 code-clear Voltage a b c d = refl
 code-clear Current a b c d = refl
 
--- and bytes without such a bit show what can be shown
-pub clear-showable : (k : Kind) (a b c d : ℕ) → a < 256 → b < 256 → c < 256 → d < 256 → statusClear k (a ∷ b ∷ c ∷ d ∷ []) ≡ true
+-- and bytes of which none is refused show what can be shown
+pub clear-showable : (k : Kind) (a b c d : ℕ) → a < 256 → b < 256 → c < 256 → d < 256 → offending k (a ∷ b ∷ c ∷ d ∷ []) ≡ 4
     → showable k (shownOf k (a ∷ b ∷ c ∷ d ∷ [])) ≡ true
-unfolding showable statusClear shownOf
+unfolding showable offending shownOf
 clear-showable k a b c d ha hb hc hd t =
-    let f = only (6 ∷ 5 ∷ 4 ∷ 3 ∷ 2 ∷ 1 ∷ 0 ∷ []) a in
-    let n = codeAllowed (a % 16) in
-    let u = and-right f n (and-left (f && n) (restClear k (a ∷ b ∷ c ∷ d ∷ [])) t) in
+    let h = all-four (firstClear a) (secondClear k b) true (fourthClear k d) t in
+    let u = and-right (only (6 ∷ 5 ∷ 4 ∷ 3 ∷ 2 ∷ 1 ∷ 0 ∷ []) a) (codeAllowed (a % 16)) (h .0) in
     and-both (and-both (ap (λ m. codeAllowed m) (code-clear k a b c d) ∙ u) (reading-clear k a b c d hc)) (fields-clear k (a ∷ b ∷ c ∷ d ∷ []))

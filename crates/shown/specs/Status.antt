@@ -1,9 +1,10 @@
 -- Status elements: what an element shows, and the four bytes that show it. Assumes nothing.
-use mathlib.Core.Bool.{Bool, false, not, _&&_}
+use mathlib.Core.Bool.{Bool, true, false, not, _&&_, _||_}
 use mathlib.Core.List.{List, [], _∷_}
 use Prim.Native.Nat.{ℕ, _+_, _*_, _/_, _%_}
 use lib.Dec.{eqb, leb}
 use lib.ListN.{getD}
+use Rattle.bits.specs.Choice.{pick}
 use Rattle.bits.specs.Bits.{bit, only, nibble, join}
 use Rattle.bits.specs.Numbers.{big, bytes}
 use Rattle.kinds.specs.declared.types.Kind.{Kind}
@@ -125,32 +126,68 @@ shownOf k e = record { set = settingsOf k e; verdict = bitsOf k e; reading = rea
 abbrev pub codeAllowed : ℕ → Bool
 codeAllowed n = leb n 8
 
--- bytes 1 to 3: every bit not named above is zero
-unfoldable pub restClear : Kind → List ℕ → Bool
-restClear Cooling e = only (7 ∷ 2 ∷ 1 ∷ 0 ∷ []) (getD e 1 0) && only (6 ∷ 5 ∷ 4 ∷ 2 ∷ 1 ∷ 0 ∷ []) (getD e 3 0)
-restClear Temperature e = only (7 ∷ 6 ∷ []) (getD e 1 0) && only (3 ∷ 2 ∷ 1 ∷ 0 ∷ []) (getD e 3 0)
-restClear Voltage e = only (7 ∷ 6 ∷ 3 ∷ 2 ∷ 1 ∷ 0 ∷ []) (getD e 1 0)
-restClear Current e = only (7 ∷ 6 ∷ 3 ∷ 1 ∷ []) (getD e 1 0)
+-- byte 0: bit 7 is zero, and the code is allowed
+abbrev pub firstClear : ℕ → Bool
+firstClear a = only (6 ∷ 5 ∷ 4 ∷ 3 ∷ 2 ∷ 1 ∷ 0 ∷ []) a && codeAllowed (a % 16)
 
-unfoldable pub statusClear : Kind → List ℕ → Bool
-statusClear k e = (only (6 ∷ 5 ∷ 4 ∷ 3 ∷ 2 ∷ 1 ∷ 0 ∷ []) (getD e 0 0) && codeAllowed (getD e 0 0 % 16)) && restClear k e
+-- bytes 1 and 3: every bit not named above is zero; byte 2 has no such bit
+unfoldable pub secondClear : Kind → ℕ → Bool
+secondClear Cooling b = only (7 ∷ 2 ∷ 1 ∷ 0 ∷ []) b
+secondClear Temperature b = only (7 ∷ 6 ∷ []) b
+secondClear Voltage b = only (7 ∷ 6 ∷ 3 ∷ 2 ∷ 1 ∷ 0 ∷ []) b
+secondClear Current b = only (7 ∷ 6 ∷ 3 ∷ 1 ∷ []) b
+
+unfoldable pub fourthClear : Kind → ℕ → Bool
+fourthClear Cooling d = only (6 ∷ 5 ∷ 4 ∷ 2 ∷ 1 ∷ 0 ∷ []) d
+fourthClear Temperature d = only (3 ∷ 2 ∷ 1 ∷ 0 ∷ []) d
+fourthClear Voltage d = true
+fourthClear Current d = true
+
+-- the first of four that does not hold, 4 if all do
+unfoldable pub firstOf : Bool → Bool → Bool → Bool → ℕ
+firstOf a b c d = pick a (pick b (pick c (pick d 4 3) 2) 1) 0
+
+-- the first byte of a status element that is refused, 4 if none is
+unfoldable pub offending : Kind → List ℕ → ℕ
+offending k e = firstOf (firstClear (getD e 0 0)) (secondClear k (getD e 1 0)) true (fourthClear k (getD e 3 0))
 
 -- in overall elements all but the code is zero
-unfoldable pub overallClear : List ℕ → Bool
-overallClear e = ((codeAllowed (getD e 0 0) && eqb (getD e 1 0) 0) && eqb (getD e 2 0) 0) && eqb (getD e 3 0) 0
+unfoldable pub overallOffending : List ℕ → ℕ
+overallOffending e = firstOf (codeAllowed (getD e 0 0)) (eqb (getD e 1 0) 0) (eqb (getD e 2 0) 0) (eqb (getD e 3 0) 0)
 
 -- ON, OFF and a speed code are shown by fans alone, and limit bits where the type has the limit
 abbrev pub fanless : Shown → Bool
 fanless x = (not (x .set .on) && not (x .off)) && eqb (x .set .speed) 0
 
+abbrev pub isHigh : Verdict → Bool
+isHigh v = v .highcrit || v .highwarn
+
+abbrev pub isLow : Verdict → Bool
+isLow v = v .lowwarn || v .lowcrit
+
 unfoldable pub fieldsShown : Kind → Shown → Bool
-fieldsShown Cooling x =
-    leb (x .set .speed) 7
-    && ((not (x .verdict .highcrit) && not (x .verdict .highwarn)) && (not (x .verdict .lowwarn) && not (x .verdict .lowcrit)))
+fieldsShown Cooling x = leb (x .set .speed) 7 && not (isHigh (x .verdict) || isLow (x .verdict))
 fieldsShown Temperature x = fanless x
 fieldsShown Voltage x = fanless x
-fieldsShown Current x = fanless x && (not (x .verdict .lowwarn) && not (x .verdict .lowcrit))
+fieldsShown Current x = fanless x && not (isLow (x .verdict))
 
 -- no field is out of range, or set where the type shows none
 unfoldable pub showable : Kind → Shown → Bool
 showable k x = (codeAllowed (x .verdict .code) && readingAllowed k (x .reading)) && fieldsShown k x
+
+-- what an overall element shows: a code and nothing else
+abbrev pub codeAlone : ℕ → Shown
+codeAlone n = record {
+  set = record { prdfail = false; disabled = false; swap = false; ident = false; fail = false; on = false; speed = 0 };
+  verdict = unlimited n;
+  reading = 0;
+  off = false;
+}
+
+unfoldable pub overallShowable : Shown → Bool
+overallShowable x =
+    (((codeAllowed (x .verdict .code)
+    && eqb (x .reading) 0)
+    && not ((((x .set .prdfail || x .set .disabled) || x .set .swap) || x .set .ident) || x .set .fail))
+    && fanless x)
+    && not (isHigh (x .verdict) || isLow (x .verdict))

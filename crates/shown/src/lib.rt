@@ -3,7 +3,7 @@ use kinds::settings::Settings;
 use kinds::types::Kind;
 use verdicts::verdict::Verdict;
 ghost use mathlib.Core.Path.{_≡_};
-ghost use Rattle.shown.specs.Status.{isOff, shownBy, firstByte, fanStatus, temperatureStatus, electricStatus, voltageStatus, currentStatus, statusBytes, fanBits, temperatureBits, voltageBits, currentBits, bitsOf, readingOf, offOf, shownOf, codeAllowed, restClear, statusClear, overallClear};
+ghost use Rattle.shown.specs.Status.{isOff, shownBy, firstByte, fanStatus, temperatureStatus, electricStatus, voltageStatus, currentStatus, statusBytes, fanBits, temperatureBits, voltageBits, currentBits, bitsOf, readingOf, offOf, shownOf, codeAlone, codeAllowed, firstClear, secondClear, fourthClear, firstOf, offending, overallOffending, isHigh, isLow, fanless, fieldsShown, showable, overallShowable};
 
 pub struct Shown {
     pub set: Settings,
@@ -54,18 +54,68 @@ impl Shown {
         }
     }
 
-    // No bit is set that the type's status element does not name, and the code is one of 0 to 8.
-    pub fn reserved_clear(kind: Kind, e: [u8; 4]) -> bool
-        ensures { λ r. ⌜ r ≡ statusClear kind e ⌝ }
+    // What an overall element shows.
+    pub fn code_alone(code: u8) -> Shown
+        ensures { λ r. ⌜ r ≡ codeAlone code ⌝ }
     {
-        (e[0] & 0x80 == 0) & code_allowed(e[0] & 0x0f) & rest_clear(kind, e)
+        Shown {
+            set: Settings {
+                prdfail: false,
+                disabled: false,
+                swap: false,
+                ident: false,
+                fail: false,
+                on: false,
+                speed: 0,
+            },
+            verdict: Verdict {
+                code,
+                highcrit: false,
+                highwarn: false,
+                lowwarn: false,
+                lowcrit: false,
+            },
+            reading: 0,
+            off: false,
+        }
     }
 
-    // An overall status element shows its code alone.
-    pub fn overall_clear(e: [u8; 4]) -> bool
-        ensures { λ r. ⌜ r ≡ overallClear e ⌝ }
+    // No field is out of range, or set where the type shows none.
+    pub fn is_showable(self, kind: Kind) -> bool
+        ensures { λ r. ⌜ r ≡ showable kind self ⌝ }
     {
-        code_allowed(e[0]) & (e[1] == 0) & (e[2] == 0) & (e[3] == 0)
+        code_allowed(self.verdict.code) & kind.may_read(self.reading) & fields_shown(self, kind)
+    }
+
+    // The same for an overall element.
+    pub fn is_code_alone(self) -> bool
+        ensures { λ r. ⌜ r ≡ overallShowable self ⌝ }
+    {
+        let s = self.set;
+        code_allowed(self.verdict.code)
+            & (self.reading == 0)
+            & !(s.prdfail | s.disabled | s.swap | s.ident | s.fail)
+            & is_fanless(self)
+            & !(is_high(self.verdict) | is_low(self.verdict))
+    }
+
+    // The first byte of a status element that has a bit set which the type does not name, or a code above 8; 4 if none has.
+    pub fn offending(kind: Kind, e: [u8; 4]) -> u8
+        ensures { λ r. ⌜ r ≡ offending kind e ⌝ }
+    {
+        first_of(
+            first_clear(e[0]),
+            second_clear(kind, e[1]),
+            true,
+            fourth_clear(kind, e[3]),
+        )
+    }
+
+    // The same for an overall element.
+    pub fn overall_offending(e: [u8; 4]) -> u8
+        ensures { λ r. ⌜ r ≡ overallOffending e ⌝ }
+    {
+        first_of(code_allowed(e[0]), e[1] == 0, e[2] == 0, e[3] == 0)
     }
 }
 
@@ -227,13 +277,75 @@ fn code_allowed(code: u8) -> bool
     }
 }
 
-fn rest_clear(kind: Kind, e: [u8; 4]) -> bool
-    ensures { λ r. ⌜ r ≡ restClear kind e ⌝ }
+fn first_clear(a: u8) -> bool
+    ensures { λ r. ⌜ r ≡ firstClear a ⌝ }
+{
+    (a & 0x80 == 0) & code_allowed(a & 0x0f)
+}
+
+fn second_clear(kind: Kind, b: u8) -> bool
+    ensures { λ r. ⌜ r ≡ secondClear kind b ⌝ }
 {
     match kind {
-        Kind::Cooling => (e[1] & 0x78 == 0) & (e[3] & 0x88 == 0),
-        Kind::Temperature => (e[1] & 0x3f == 0) & (e[3] & 0xf0 == 0),
-        Kind::Voltage => e[1] & 0x30 == 0,
-        Kind::Current => e[1] & 0x35 == 0,
+        Kind::Cooling => b & 0x78 == 0,
+        Kind::Temperature => b & 0x3f == 0,
+        Kind::Voltage => b & 0x30 == 0,
+        Kind::Current => b & 0x35 == 0,
+    }
+}
+
+fn fourth_clear(kind: Kind, d: u8) -> bool
+    ensures { λ r. ⌜ r ≡ fourthClear kind d ⌝ }
+{
+    match kind {
+        Kind::Cooling => d & 0x88 == 0,
+        Kind::Temperature => d & 0xf0 == 0,
+        Kind::Voltage | Kind::Current => true,
+    }
+}
+
+// The first of four that does not hold.
+fn first_of(a: bool, b: bool, c: bool, d: bool) -> u8
+    ensures { λ r. ⌜ r ≡ firstOf a b c d ⌝ }
+{
+    if !a {
+        0
+    } else if !b {
+        1
+    } else if !c {
+        2
+    } else if !d {
+        3
+    } else {
+        4
+    }
+}
+
+fn is_high(v: Verdict) -> bool
+    ensures { λ r. ⌜ r ≡ isHigh v ⌝ }
+{
+    v.highcrit | v.highwarn
+}
+
+fn is_low(v: Verdict) -> bool
+    ensures { λ r. ⌜ r ≡ isLow v ⌝ }
+{
+    v.lowwarn | v.lowcrit
+}
+
+// Nothing is set that fans alone show.
+fn is_fanless(x: Shown) -> bool
+    ensures { λ r. ⌜ r ≡ fanless x ⌝ }
+{
+    !x.set.on & !x.off & (x.set.speed == 0)
+}
+
+fn fields_shown(x: Shown, kind: Kind) -> bool
+    ensures { λ r. ⌜ r ≡ fieldsShown kind x ⌝ }
+{
+    match kind {
+        Kind::Cooling => (x.set.speed <= 7) & !(is_high(x.verdict) | is_low(x.verdict)),
+        Kind::Temperature | Kind::Voltage => is_fanless(x),
+        Kind::Current => is_fanless(x) & !is_low(x.verdict),
     }
 }

@@ -4,7 +4,6 @@ use kinds::control::Control;
 use kinds::settings::Settings;
 use shelf::elements;
 use shelf::types;
-use shown::Shown;
 use verdicts::thresholds;
 
 // What the overall and the individual control element make of the element's settings; 6 for a reserved bit.
@@ -36,21 +35,5 @@ pub extern "C" fn trial_thresholds(shelf: &mut [u8], overall: &[u8], own: &[u8])
         return 8;
     }
     elements::put_thresholds(shelf, 0, t);
-    0
-}
-
-// The status bytes of the element, written, read and written again; 6 if they are not accepted.
-#[no_mangle]
-pub extern "C" fn trial_status(shelf: &[u8], out: &mut [u8]) -> u8 {
-    let kind = types::kind_at(shelf, 0);
-    let set = Settings::of(kind, elements::settings_at(shelf, 0));
-    let reading = elements::reading_at(shelf, 0);
-    let nominal = elements::nominal_at(shelf, 0);
-    let t = elements::thresholds_at(shelf, 0);
-    let e = Shown::by(kind, set, reading, nominal, t).bytes(kind);
-    if !Shown::reserved_clear(kind, e) {
-        return 6;
-    }
-    bits::put_four(out, 0, Shown::of(kind, e).bytes(kind));
     0
 }

@@ -1,57 +1,50 @@
 -- `shelf::opening::open_shelf` meets its contract. Assumes nothing.
 use mathlib.Core.Path.{sym, _∙_}
 use denote.Ref.{now}
-use borrow.Author.Tests.{not-true, not-false}
-use Rattle.shelf.proofs.Stages.{no-head, no-types, no-size, no-elements, all-passed}
+use lib.ListN.{length}
+use borrow.Author.Tests.{eq-eqb, ne-eqb}
+use Rattle.shelf.proofs.Stages.{no-front, no-length, no-elements, all-passed}
 use borrow.Author.Needs.{needs}
 use Rattle.shelf.proofs.opening.open_shelf.Statement.{statement}
 use Rattle.shelf.proofs.opening.open_shelf.Tie as tie
 
-head-formed-requires : tie.Need-head-formed-requires
-head-formed-requires c κs = search needs
+front-requires : tie.Need-front-requires
+front-requires c κs = search needs
+
+enum-known-front : tie.Need-enum-known-front
+enum-known-front c = search needs
+
+enum-told : tie.Need-enum-told
+enum-told c = search needs
 
 returns : tie.Need-returns
-returns c = no-head (now (c .before .before .before .args .shelf)) (sym (c .before .head-formed .ensures) ∙ not-true _ (c .if1 .taken))
+returns c = no-front (now (c .before .before .before .before .args .shelf)) (sym (c .before .before .front .ensures) ∙ c .enum-told .given .1)
 
-count-requires : tie.Need-count-requires
-count-requires c κs = search needs
-
-types-formed-requires : tie.Need-types-formed-requires
-types-formed-requires c κs = search needs
+block-length-requires : tie.Need-block-length-requires
+block-length-requires c κs = search needs
 
 returns-2 : tie.Need-returns-2
-returns-2 c = no-types (now (c .before .before .before .before .before .before .args .shelf)) (c .before .before .count .result) (c .before .before .count .ensures) (sym (c .before .types-formed .ensures) ∙ not-true _ (c .if2 .taken))
-
-all-elements-requires : tie.Need-all-elements-requires
-all-elements-requires c κs = search needs
-
-size-formed-requires : tie.Need-size-formed-requires
-size-formed-requires c κs = search needs
-
-returns-3 : tie.Need-returns-3
-returns-3 c = no-size (now (c .before .before .before .before .before .before .before .before .before .args .shelf)) (c .before .before .all-elements .result) (c .before .before .all-elements .ensures) (sym (c .before .size-formed .ensures) ∙ not-true _ (c .if3 .taken))
+returns-2 c = let s = now (c .before .before .before .before .before .before .before .args .shelf) in no-length s (sym (c .before .before .before .before .before .front .ensures) ∙ c .before .before .before .front2 .given .1) (ne-eqb (length s) _ (λ e. c .if1 .taken (e ∙ sym (c .before .block-length .ensures))))
 
 elements-formed-requires : tie.Need-elements-formed-requires
 elements-formed-requires c κs = search needs
 
-returns-4 : tie.Need-returns-4
-returns-4 c = no-elements (now (c .before .before .before .before .before .before .before .before .before .before .before .args .shelf)) (c .before .before .before .before .all-elements .result) (c .before .before .before .before .all-elements .ensures) (sym (c .before .elements-formed .ensures) ∙ not-true _ (c .if4 .taken))
+returns-3 : tie.Need-returns-3
+returns-3 c = let s = now (c .before .before .before .before .before .before .before .before .before .args .shelf) in all-passed s (sym (c .before .before .before .before .before .before .before .front .ensures) ∙ c .before .before .before .before .before .front2 .given .1) (eq-eqb (length s) _ (c .before .before .if1 .left ∙ c .before .before .before .block-length .ensures)) (sym (c .before .elements-formed .ensures) ∙ c .if2 .taken)
 
-returns-5 : tie.Need-returns-5
-returns-5 c = all-passed (now (c .before .before .before .before .before .before .before .before .before .before .before .args .shelf)) (c .before .before .before .before .before .before .before .count .result) (c .before .before .before .before .all-elements .result) (c .before .before .before .before .before .before .before .count .ensures) (c .before .before .before .before .all-elements .ensures) (sym (c .before .before .before .before .before .before .before .before .before .head-formed .ensures) ∙ not-false _ (c .before .before .before .before .before .before .before .before .if1 .left)) (sym (c .before .before .before .before .before .before .types-formed .ensures) ∙ not-false _ (c .before .before .before .before .before .if2 .left)) (sym (c .before .before .before .size-formed .ensures) ∙ not-false _ (c .before .before .if3 .left)) (sym (c .before .elements-formed .ensures) ∙ not-false _ (c .if4 .left))
+returns-4 : tie.Need-returns-4
+returns-4 c = let s = now (c .before .before .before .before .before .before .before .before .before .args .shelf) in no-elements s (sym (c .before .before .before .before .before .before .before .front .ensures) ∙ c .before .before .before .before .before .front2 .given .1) (sym (c .before .elements-formed .ensures) ∙ c .if2 .left)
 
 pub open-shelf-spec : {M : Type 1} → statement M
 open-shelf-spec =
     tie.close
     (tie.spec
-    head-formed-requires
+    front-requires
+    enum-known-front
+    enum-told
     returns
-    count-requires
-    types-formed-requires
+    block-length-requires
     returns-2
-    all-elements-requires
-    size-formed-requires
-    returns-3
     elements-formed-requires
-    returns-4
-    returns-5)
+    returns-3
+    returns-4)

@@ -1,0 +1,151 @@
+-- Rows of bytes: how a loop writes them one after the other, and where each is read. Assumes nothing.
+use mathlib.Core.Path.{_≡_, refl, sym, ap, _∙_}
+use mathlib.Core.List.{List, [], _∷_, _++_, append-assoc, append-nil}
+use mathlib.Core.Logic.{⊎-elim}
+use Prim.Native.Nat.{ℕ, zero, suc, _+_, _*_, _<_, _≤_}
+use native.Mathlib.Nat.{not-suc-le-zero, le-of-suc-le-suc, eq-or-lt-of-le, mul-suc, mul-zero, add-zero}
+use native.Mathlib.Numerals.{add-one}
+use native.Mathlib.Omega.{arith}
+use lib.ListN.{length, getD, take, drop, set, length-append, length-drop, take-append-drop, List·getD-append}
+use lib.Seq.{sets, sets-eq, take-at, drop-append-add, drop-drop, drop-cons, take-add, getD-append-add, getD-drop, take-suc, set-at, append-snoc, length-take-le}
+use borrow.Author.Tests.{le-leb, lt-leb}
+use Rattle.bits.specs.Places.{fourAt, putFour}
+use Rattle.bits.specs.Rows.{joined, oneAt, bytesAt, putBytes}
+use Rattle.bits.proofs.Logic.{pick-yes, pick-no}
+
+module _ (f : ℕ → List ℕ) (w : ℕ) (h : (i : ℕ) → length (f i) ≡ w) where
+  pub length-joined : (n : ℕ) → length (joined f n) ≡ w * n
+  length-joined zero = sym (mul-zero w)
+  length-joined (suc n) = length-append (joined f n) (f n) ∙ rw (length-joined n, h n) (sym (mul-suc w n))
+
+  -- byte k of row i
+  pub joined-get : (n : ℕ) (rest : List ℕ) (i k : ℕ) → i < n → k < w → getD (joined f n ++ rest) (w * i + k) 0 ≡ getD (f i) k 0
+  joined-get zero rest i k l m = absurd (not-suc-le-zero l)
+  joined-get (suc n) rest i k l m =
+      ap (λ (r : List ℕ). getD r (w * i + k) 0) (append-assoc (joined f n) (f n) rest)
+      ∙ ⊎-elim (λ e. last e) (λ (b : i < n). joined-get n (f n ++ rest) i k b m) (eq-or-lt-of-le (le-of-suc-le-suc l))
+    where
+      last : i ≡ n → getD (joined f n ++ (f n ++ rest)) (w * i + k) 0 ≡ getD (f i) k 0
+      last e =
+          ap (λ (x : ℕ). getD (joined f n ++ (f n ++ rest)) (x + k) 0) (ap (λ (y : ℕ). w * y) e ∙ sym (length-joined n))
+          ∙ getD-append-add (joined f n) (f n ++ rest) k 0
+          ∙ List·getD-append (f n) rest 0 k (rw (h n) m)
+          ∙ ap (λ (y : ℕ). getD (f y) k 0) (sym e)
+
+-- rows that are the same one by one are the same together
+pub joined-same : (f g : ℕ → List ℕ) (n : ℕ) → ((i : ℕ) → i < n → f i ≡ g i) → joined f n ≡ joined g n
+joined-same f g zero h = refl
+joined-same f g (suc n) h = rw (joined-same f g n (λ i l. h i (omega arith)), h n (omega arith))
+
+-- bytes written behind what stands
+behind : (p s v : List ℕ) (k n : ℕ) → length p ≡ k → take k (p ++ drop k s) ++ v ++ drop (k + n) (p ++ drop k s) ≡ p ++ v ++ drop (k + n) s
+behind p s v k n e =
+    let a = take-at p (drop k s) k e in
+    let b : drop (k + n) (p ++ drop k s) ≡ drop (k + n) s =
+    ap (λ (m : ℕ). drop (m + n) (p ++ drop k s)) (sym e) ∙ drop-append-add p (drop k s) n ∙ drop-drop n k s in
+    rw (a, b)
+
+length-behind : (p s : List ℕ) (k n : ℕ) → length p ≡ k → k + n ≤ length s → k + n ≤ length (p ++ drop k s)
+length-behind p s k n e h = rw (length-append p (drop k s), length-drop k s, e) (omega arith)
+
+-- four bytes as one row
+as-sets : (s : List ℕ) (k a b c d : ℕ) → set (set (set (set s k a) (k + 1) b) (k + 2) c) (k + 3) d ≡ sets s k (a ∷ b ∷ c ∷ d ∷ [])
+as-sets s k a b c d =
+    let e1 : k + 1 ≡ suc k = omega arith in
+    let e2 : k + 2 ≡ suc (suc k) = omega arith in
+    let e3 : k + 3 ≡ suc (suc (suc k)) = omega arith in
+    rw (e1, e2, e3)
+
+pub put-next : (p s : List ℕ) (k a b c d : ℕ) → length p ≡ k → k + 4 ≤ length s
+    → putFour (p ++ drop k s) k (a ∷ b ∷ c ∷ d ∷ []) ≡ p ++ (a ∷ b ∷ c ∷ d ∷ []) ++ drop (k + 4) s
+unfolding putFour
+put-next p s k a b c d e h =
+    let l = length-behind p s k 4 e h in
+    pick-yes _ _ _ (le-leb (k + 4) (length (p ++ drop k s)) l)
+    ∙ as-sets (p ++ drop k s) k a b c d
+    ∙ sets-eq (a ∷ b ∷ c ∷ d ∷ []) (p ++ drop k s) k l
+    ∙ behind p s (a ∷ b ∷ c ∷ d ∷ []) k 4 e
+
+pub bytes-next : (p s f : List ℕ) (k : ℕ) → length p ≡ k → k + length f ≤ length s
+    → putBytes (p ++ drop k s) k f ≡ p ++ f ++ drop (k + length f) s
+unfolding putBytes
+bytes-next p s f k e h =
+    pick-yes _ _ _ (le-leb (k + length f) (length (p ++ drop k s)) (length-behind p s k (length f) e h))
+    ∙ behind p s f k (length f) e
+
+-- four bytes of a list, and the list up to and behind them
+pub drop-four : (s : List ℕ) (k : ℕ) → k + 4 ≤ length s → drop k s ≡ fourAt s k ++ drop (k + 4) s
+drop-four s k h =
+    let e1 : k + 1 ≡ suc k = omega arith in
+    let e2 : k + 2 ≡ suc (suc k) = omega arith in
+    let e3 : k + 3 ≡ suc (suc (suc k)) = omega arith in
+    let e4 : k + 4 ≡ suc (suc (suc (suc k))) = omega arith in
+    rw (e1, e2, e3, e4)
+    (drop-cons s k 0 (omega arith)
+    ∙ ap (λ (r : List ℕ). getD s k 0 ∷ r)
+    (drop-cons s (suc k) 0 (omega arith)
+    ∙ ap (λ (r : List ℕ). getD s (suc k) 0 ∷ r)
+    (drop-cons s (suc (suc k)) 0 (omega arith)
+    ∙ ap (λ (r : List ℕ). getD s (suc (suc k)) 0 ∷ r) (drop-cons s (suc (suc (suc k))) 0 (omega arith)))))
+
+pub take-four : (s : List ℕ) (k : ℕ) → k + 4 ≤ length s → take (k + 4) s ≡ take k s ++ fourAt s k
+take-four s k h = take-add k 4 s ∙ ap (λ (r : List ℕ). take k s ++ take 4 r) (drop-four s k h)
+
+-- the rows of four from k on are what stands there
+pub fours : (s : List ℕ) (k n : ℕ) → k + 4 * n ≤ length s → take (k + 4 * n) s ≡ take k s ++ joined (λ i. fourAt s (k + 4 * i)) n
+fours s k zero h = rw (mul-zero, add-zero) (sym (append-nil (take k s)))
+fours s k (suc n) h =
+    let e : k + 4 * suc n ≡ k + 4 * n + 4 = omega arith in
+    ap (λ (m : ℕ). take m s) e
+    ∙ take-four s (k + 4 * n) (omega arith)
+    ∙ ap (λ (r : List ℕ). r ++ fourAt s (k + 4 * n)) (fours s k n (omega arith))
+    ∙ append-assoc (take k s) (joined (λ i. fourAt s (k + 4 * i)) n) (fourAt s (k + 4 * n))
+
+pub length-bytes-at : (s : List ℕ) (k n : ℕ) → length (bytesAt s k n) ≡ n
+unfolding bytesAt
+length-bytes-at s k n = length-joined (oneAt s k) 1 (λ i. refl) n ∙ omega arith
+
+-- bytes from k on are what stands there
+pub bytes-there : (s : List ℕ) (k n : ℕ) → k + n ≤ length s → bytesAt s k n ≡ take n (drop k s)
+unfolding bytesAt
+bytes-there s k zero h = refl
+bytes-there s k (suc n) h =
+    let e : k + n < length s = omega arith in
+    rw (bytes-there s k n (omega arith))
+    (ap (λ (x : ℕ). take n (drop k s) ++ (x ∷ [])) (sym (getD-drop k s n 0))
+    ∙ sym (take-suc (drop k s) n 0 (rw (length-drop k s) (omega arith))))
+
+pub bytes-get : (s : List ℕ) (k n i : ℕ) (rest : List ℕ) → i < n → getD (bytesAt s k n ++ rest) i 0 ≡ getD s (k + i) 0
+unfolding bytesAt
+bytes-get s k n i rest l =
+    ap (λ (m : ℕ). getD (joined (oneAt s k) n ++ rest) m 0) (let e : i ≡ 1 * i + 0 = omega arith in e)
+    ∙ joined-get (oneAt s k) 1 (λ i. refl) n rest i 0 l (omega arith)
+
+-- one more byte is copied
+pub copy-start : (s : List ℕ) (k : ℕ) (f : List ℕ) (at : ℕ) → s ≡ take k s ++ bytesAt f at 0 ++ drop (k + 0) s
+unfolding bytesAt
+copy-start s k f at = rw (add-zero, append-nil) (sym (take-append-drop k s))
+
+pub copy-next : (s : List ℕ) (k : ℕ) (f : List ℕ) (at i : ℕ) → k + i < length s
+    → set (take k s ++ bytesAt f at i ++ drop (k + i) s) (k + i) (getD f (at + i) 0) ≡ take k s ++ bytesAt f at (i + 1) ++ drop (k + (i + 1)) s
+unfolding bytesAt
+copy-next s k f at i h =
+    let p = take k s ++ joined (oneAt f at) i in
+    let lp : length p ≡ k + i =
+    length-append (take k s) (joined (oneAt f at) i)
+    ∙ rw (length-take-le k s (omega arith), length-joined (oneAt f at) 1 (λ i. refl) i) (omega arith) in
+    let e : k + (i + 1) ≡ suc (k + i) = omega arith in
+    rw (drop-cons s (k + i) 0 h, e, add-one i)
+    (set-at p (getD s (k + i) 0) (drop (suc (k + i)) s) (getD f (at + i) 0) (k + i) lp
+    ∙ sym (append-snoc p (getD f (at + i) 0) (drop (suc (k + i)) s))
+    ∙ ap (λ (r : List ℕ). r ++ drop (suc (k + i)) s) (append-assoc (take k s) (joined (oneAt f at) i) (getD f (at + i) 0 ∷ [])))
+
+-- all bytes are copied, or none
+pub copied : (s : List ℕ) (k : ℕ) (f : List ℕ) (at n : ℕ) → k + n ≤ length s
+    → take k s ++ bytesAt f at n ++ drop (k + n) s ≡ putBytes s k (bytesAt f at n)
+unfolding putBytes
+copied s k f at n h = rw (length-bytes-at f at n) (sym (pick-yes _ _ _ (le-leb (k + n) (length s) h)))
+
+pub not-copied : (s : List ℕ) (k : ℕ) (f : List ℕ) (at n : ℕ) → length s < k + n → s ≡ putBytes s k (bytesAt f at n)
+unfolding putBytes
+not-copied s k f at n h = rw (length-bytes-at f at n) (sym (pick-no _ _ _ (lt-leb (k + n) (length s) h)))

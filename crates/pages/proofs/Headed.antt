@@ -1,0 +1,59 @@
+-- The tests of a header one after the other, and the header written. Assumes nothing.
+use mathlib.Core.Path.{_≡_, refl, sym, ap, _∙_}
+use mathlib.Core.Bool.{Bool, true, false}
+use mathlib.Core.List.{List, [], _∷_, _++_}
+use Prim.Native.Nat.{ℕ, _/_, _%_, _-_, _≤_}
+use native.Mathlib.Omega.{arith}
+use lib.Dec.{eqb, leb}
+use lib.ListN.{length, getD, drop}
+use Rattle.bits.specs.Numbers.{bytes}
+use Rattle.bits.specs.Places.{fourAt, putFour}
+use Rattle.bits.proofs.Rows.{put-next}
+use Rattle.refusals.specs.declared.Refusal.the-variants.{PageTooShort, PageCode, PageLength, Generation}
+use Rattle.refusals.specs.declared.Answer.the-variants.{Accepted, Refused}
+use Rattle.pages.specs.Slots.{slotPlace}
+use Rattle.pages.specs.Header.{lengthSaid, generationOn, generationOf, headed, header, headPut}
+
+module _ (c p : List ℕ) (code n : ℕ) where
+  pub too-short : leb 4 (length p) ≡ false → Refused PageTooShort ≡ headed c p code n
+  unfolding headed
+  too-short e = rw e
+
+  module _ (e1 : leb 4 (length p) ≡ true) where
+    pub other-code : eqb (getD p 0 0) code ≡ false → Refused PageCode ≡ headed c p code n
+    unfolding headed
+    other-code e = rw (e1, e)
+
+    module _ (e2 : eqb (getD p 0 0) code ≡ true) where
+      pub other-length : lengthSaid p ≡ false → Refused PageLength ≡ headed c p code n
+      unfolding headed
+      other-length e = rw (e1, e2, e)
+
+      module _ (e3 : lengthSaid p ≡ true) where
+        pub other-slots : eqb (length p) (slotPlace n) ≡ false → Refused PageLength ≡ headed c p code n
+        unfolding headed
+        other-slots e = rw (e1, e2, e3, e)
+
+        module _ (e4 : eqb (length p) (slotPlace n) ≡ true) where
+          pub other-generation : eqb (generationOn p) (generationOf c) ≡ false → Refused Generation ≡ headed c p code n
+          unfolding headed
+          other-generation e = rw (e1, e2, e3, e4, e)
+
+          pub head-passed : eqb (generationOn p) (generationOf c) ≡ true → Accepted ≡ headed c p code n
+          unfolding headed
+          head-passed e = rw (e1, e2, e3, e4, e)
+
+-- the header, from what the calls say
+pub head-is : (c out : List ℕ) (code own n : ℕ) {l : ℕ} {f o1 o2 : List ℕ} → l ≡ slotPlace n → o1 ≡ putFour out 0 (code ∷ own ∷ bytes 2 (l - 4))
+    → f ≡ fourAt c 0 → o2 ≡ putFour o1 4 f → o2 ≡ headPut c out code own n
+unfolding headPut
+head-is c out code own n p q r s = s ∙ rw (q, r, p)
+
+-- it stands before what stood behind it
+pub head-put : (c out : List ℕ) (code own n : ℕ) → 8 ≤ length out → headPut c out code own n ≡ header c code own n ++ drop 8 out
+unfolding headPut header
+head-put c out code own n h =
+    let x = slotPlace n - 4 in
+    let e = put-next [] out 0 code own (x / 256 % 256) (x % 256) refl (omega arith) in
+    ap (λ (o : List ℕ). putFour o 4 (fourAt c 0)) e
+    ∙ put-next (code ∷ own ∷ x / 256 % 256 ∷ x % 256 ∷ []) out 4 (getD c 0 0) (getD c 1 0) (getD c 2 0) (getD c 3 0) refl (omega arith)

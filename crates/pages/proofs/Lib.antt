@@ -1,0 +1,6 @@
+pub mod Headed
+pub mod Counted
+pub mod Slotted
+pub mod Filled
+pub mod Bounds
+pub mod Fitted

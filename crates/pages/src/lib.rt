@@ -1,0 +1,3 @@
+// What the pages 02h and 05h share: a header, and slots of four bytes, one for each overall and each individual element.
+pub mod header;
+pub mod slots;

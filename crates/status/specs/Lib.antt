@@ -1,0 +1,4 @@
+pub mod Page
+pub mod Entries
+pub mod Read
+pub mod Again

@@ -1,0 +1,64 @@
+-- The status page read: which pages are refused, and what the others show. Assumes nothing.
+use mathlib.Core.Bool.{Bool}
+use mathlib.Core.List.{List, [], _∷_, _++_}
+use Prim.Native.Nat.{ℕ, _+_}
+use lib.Dec.{eqb, ltb}
+use lib.ListN.{getD}
+use Rattle.bits.specs.Choice.{pick, firstBelow}
+use Rattle.bits.specs.Bits.{bit, only}
+use Rattle.bits.specs.Places.{fourAt}
+use Rattle.bits.specs.Rows.{joined}
+use Rattle.refusals.specs.declared.Refusal.the-variants.{ShelfNotWellFormed, NotAllowed}
+use Rattle.refusals.specs.declared.Answer.{Answer}
+use Rattle.refusals.specs.declared.Answer.the-variants.{Accepted}
+use Rattle.refusals.specs.Outcomes.{unless, next}
+use Rattle.shelf.specs.Formed.{configurationFormed}
+use Rattle.shown.specs.declared.Shown.{Shown}
+use Rattle.shown.specs.Status.{offending, overallOffending, codeAlone, shownOf}
+use Rattle.pages.specs.declared.slots.Slot.{Slot}
+use Rattle.pages.specs.Slots.{slotsOf, slotAt, slotPlace}
+use Rattle.pages.specs.Header.{headed}
+use Rattle.shows.specs.declared.PageBits.{PageBits}
+use Rattle.status.specs.Entries.{headRow, entryBytes}
+
+-- the first byte of slot i that is refused, 4 if none is
+unfoldable pub slotOffending : List ℕ → List ℕ → ℕ → ℕ
+slotOffending c p i =
+    let at : Slot = slotAt c i in
+    pick (at .overall) (overallOffending (fourAt p (slotPlace i))) (offending (at .kind) (fourAt p (slotPlace i)))
+
+abbrev pub slotRefused : List ℕ → List ℕ → ℕ → Bool
+slotRefused c p i = ltb (slotOffending c p i) 4
+
+-- where the slots' first refused byte stands, or where the page ends
+abbrev pub slotsOffence : List ℕ → List ℕ → ℕ → ℕ
+slotsOffence c p n =
+    let i : ℕ = firstBelow (slotRefused c p) n in
+    pick (ltb i n) (slotPlace i + slotOffending c p i) (slotPlace n)
+
+-- byte 1 may have NON-CRIT and CRIT, bits 2 and 1, and no other
+unfoldable pub offence : List ℕ → List ℕ → ℕ → ℕ
+offence c p n = pick (only (2 ∷ 1 ∷ []) (getD p 1 0)) (slotsOffence c p n) 1
+
+-- 1: no configuration; 2 to 5: the header; 6: a byte of the page is refused
+unfoldable pub statusRead : List ℕ → List ℕ → Answer
+statusRead c p =
+    unless (configurationFormed c) ShelfNotWellFormed
+    (next (headed c p 0x02 (slotsOf c))
+    (unless (eqb (offence c p (slotsOf c)) (slotPlace (slotsOf c))) NotAllowed Accepted))
+
+-- what slot i shows
+unfoldable pub slotShown : List ℕ → List ℕ → ℕ → Shown
+slotShown c p i =
+    let at : Slot = slotAt c i in
+    pick (at .overall) (codeAlone (getD p (slotPlace i) 0)) (shownOf (at .kind) (fourAt p (slotPlace i)))
+
+unfoldable pub bitsOn : List ℕ → PageBits
+bitsOn p = record { noncritical = bit 2 (getD p 1 0); critical = bit 1 (getD p 1 0) }
+
+-- the record of shown fields
+abbrev pub recordWith : PageBits → (ℕ → Shown) → ℕ → List ℕ
+recordWith b f n = headRow b n ++ joined (λ i. entryBytes (f i)) n
+
+unfoldable pub statusRecord : List ℕ → List ℕ → List ℕ
+statusRecord c p = recordWith (bitsOn p) (slotShown c p) (slotsOf c)

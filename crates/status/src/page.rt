@@ -1,0 +1,58 @@
+// The page of a shelf.
+use pages::header;
+use pages::slots;
+use pages::slots::Slot;
+use refusals::Refusal;
+use refusals::Written;
+use shelf::opening;
+use shelf::opening::Opened;
+use shown::Shown;
+use shows::PageBits;
+ghost use mathlib.Core.Path.{_≡_};
+ghost use Rattle.refusals.specs.Outcomes.{writes, outAfter};
+ghost use Rattle.shelf.specs.Formed.{wellFormed};
+ghost use Rattle.shows.specs.Shows.{shownIn};
+ghost use Rattle.pages.specs.Slots.{slotsPut};
+ghost use Rattle.status.specs.Page.{slotBytes, slotRow, shelfAsked, statusPage};
+
+pub const CODE: u8 = 0x02;
+
+pub fn slot_bytes(at: Slot, x: Shown) -> [u8; 4]
+    ensures { λ r. ⌜ r ≡ slotBytes at x ⌝ }
+{
+    let kind = at.kind;
+    if at.overall {
+        [x.verdict.code, 0, 0, 0]
+    } else {
+        x.bytes(kind)
+    }
+}
+
+fn put_slots(shelf: &[u8], out: &mut [u8], n: u16)
+    ensures { λ _. ⌜ now (out .exit) ≡ slotsPut (slotRow (now (shelf .entry)) (shownIn (now (shelf .entry)))) (now (out .entry)) n ⌝ }
+{
+    let mut i: u16 = 0;
+    while i < n {
+        let e = slot_bytes(slots::slot_at(shelf, i), shows::shown_in(shelf, i));
+        bits::put_four(out, slots::slot_place(i), e);
+        i += 1;
+    }
+}
+
+pub fn write(shelf: &[u8], out: &mut [u8]) -> Written
+    ensures { λ r. ⌜ r ≡ writes (shelfAsked (now (shelf .entry))) (statusPage (now (shelf .entry))) (now (out .entry)) ⌝ }
+    ensures { λ r. ⌜ now (out .exit) ≡ outAfter r (statusPage (now (shelf .entry))) (now (out .entry)) ⌝ }
+{
+    let opened = opening::open_shelf(shelf);
+    let Opened::Shelf(sizes) = opened else {
+        return Written::Refused(Refusal::ShelfNotWellFormed);
+    };
+    let n = sizes.types + sizes.elements;
+    let fit = Written::fit(slots::slot_place(n), out.len());
+    let Written::Bytes(_) = fit else {
+        return fit;
+    };
+    header::put(shelf, out, CODE, PageBits::of(shelf).byte(), n);
+    put_slots(shelf, out, n);
+    fit
+}

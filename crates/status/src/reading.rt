@@ -1,0 +1,101 @@
+// The page read, under a configuration.
+use crate::entries;
+use crate::page;
+use pages::header;
+use pages::slots;
+use refusals::Answer;
+use refusals::Refusal;
+use shelf::opening;
+use shelf::opening::Opened;
+use shown::Shown;
+use shows::PageBits;
+ghost use mathlib.Core.Path.{_≡_};
+ghost use Rattle.refusals.specs.Outcomes.{recordAfter};
+ghost use Rattle.status.specs.Entries.{entriesPut};
+ghost use Rattle.status.specs.Read.{slotOffending, offence, slotShown, bitsOn, statusRead, statusRecord};
+
+// The first byte of slot i that is refused; 4 if none is.
+fn slot_offending(configuration: &[u8], page: &[u8], i: u16) -> u8
+    ensures { λ r. ⌜ r ≡ slotOffending (now (configuration .entry)) (now (page .entry)) i ⌝ }
+{
+    let at = slots::slot_at(configuration, i);
+    let kind = at.kind;
+    let e = bits::four_at(page, slots::slot_place(i));
+    if at.overall {
+        Shown::overall_offending(e)
+    } else {
+        Shown::offending(kind, e)
+    }
+}
+
+// The first byte of the page, in page order, that is refused; the page's length if none is.
+fn first_offence(configuration: &[u8], page: &[u8], n: u16) -> u32
+    ensures { λ r. ⌜ r ≡ offence (now (configuration .entry)) (now (page .entry)) n ⌝ }
+{
+    if bits::byte_at(page, 1) & 0xf9 != 0 {
+        return 1;
+    }
+    let mut i: u16 = 0;
+    while i < n {
+        let k = slot_offending(configuration, page, i);
+        if k < 4 {
+            return slots::slot_place(i) + k as u32;
+        }
+        i += 1;
+    }
+    slots::slot_place(n)
+}
+
+fn slot_shown(configuration: &[u8], page: &[u8], i: u16) -> Shown
+    ensures { λ r. ⌜ r ≡ slotShown (now (configuration .entry)) (now (page .entry)) i ⌝ }
+{
+    let at = slots::slot_at(configuration, i);
+    let kind = at.kind;
+    let e = bits::four_at(page, slots::slot_place(i));
+    if at.overall {
+        Shown::code_alone(e[0])
+    } else {
+        Shown::of(kind, e)
+    }
+}
+
+fn bits_on(page: &[u8]) -> PageBits
+    ensures { λ r. ⌜ r ≡ bitsOn (now (page .entry)) ⌝ }
+{
+    let b = bits::byte_at(page, 1);
+    PageBits {
+        noncritical: b >> 2 & 1 == 1,
+        critical: b >> 1 & 1 == 1,
+    }
+}
+
+fn put_entries(configuration: &[u8], page: &[u8], fields: &mut [u8], n: u16)
+    ensures { λ _. ⌜ now (fields .exit) ≡ entriesPut (slotShown (now (configuration .entry)) (now (page .entry))) (now (fields .entry)) n ⌝ }
+{
+    let mut i: u16 = 0;
+    while i < n {
+        entries::put_entry(fields, i, slot_shown(configuration, page, i));
+        i += 1;
+    }
+}
+
+pub fn read(configuration: &[u8], page: &[u8], fields: &mut [u8; entries::LENGTH]) -> Answer
+    ensures { λ r. ⌜ r ≡ statusRead (now (configuration .entry)) (now (page .entry)) ⌝ }
+    ensures { λ r. ⌜ now (fields .exit) ≡ recordAfter r (statusRecord (now (configuration .entry)) (now (page .entry))) (now (fields .entry)) ⌝ }
+{
+    let opened = opening::open_configuration(configuration);
+    let Opened::Shelf(sizes) = opened else {
+        return Answer::Refused(Refusal::ShelfNotWellFormed);
+    };
+    let n = sizes.types + sizes.elements;
+    let head = header::test(configuration, page, page::CODE, n);
+    let Answer::Accepted = head else {
+        return head;
+    };
+    if first_offence(configuration, page, n) != slots::slot_place(n) {
+        return Answer::Refused(Refusal::NotAllowed);
+    }
+    entries::put_head(fields, bits_on(page), n);
+    put_entries(configuration, page, fields, n);
+    Answer::Accepted
+}

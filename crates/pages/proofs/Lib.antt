@@ -4,3 +4,5 @@ pub mod Slotted
 pub mod Filled
 pub mod Bounds
 pub mod Fitted
+pub mod Fronted
+pub mod HeadAgain

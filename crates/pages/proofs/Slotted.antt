@@ -1,18 +1,18 @@
 -- What a slot is for: its type, and its place among the slots of that type. Assumes nothing.
-use mathlib.Core.Path.{_≡_, refl, sym, ap, _∙_}
-use mathlib.Core.Bool.{Bool, true, false}
+use mathlib.Core.Path.{_≡_, refl}
+use mathlib.Core.Bool.{true, false}
 use mathlib.Core.List.{List}
-use Prim.Native.Nat.{ℕ, zero, suc, _+_, _<_, _≤_, _-_}
+use Prim.Native.Nat.{ℕ, zero, suc, _+_, _≤_, _-_}
 use native.Mathlib.Numerals.{add-one}
 use native.Mathlib.Omega.{arith}
-use lib.Dec.{eqb, ltb}
+use lib.Dec.{eqb}
 use borrow.Author.Tests.{ltb-false, eq-eqb, ne-eqb}
-use Rattle.bits.specs.Choice.{pick, firstBelow}
+use Rattle.bits.specs.Choice.{firstBelow}
 use Rattle.bits.proofs.Logic.{first-fails}
 use Rattle.kinds.specs.declared.types.Kind.{Kind}
 use Rattle.kinds.specs.Types.{kindOf}
 use Rattle.shelf.specs.Limits.{mostTypes}
-use Rattle.shelf.specs.Types.{typeCode, typeCount, before}
+use Rattle.shelf.specs.Types.{typeCode, typeCount}
 use Rattle.pages.specs.declared.slots.Found.{Found}
 use Rattle.pages.specs.Slots.{startOf, inType, slotType, foundAt, isOverall, slotAt}
 use Rattle.pages.proofs.Counted.{start-none}

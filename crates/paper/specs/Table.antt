@@ -1,7 +1,8 @@
--- The cases that document 01 marks M, as far as one element tells them. Assumes nothing.
+-- The cases that document 01 marks M, but for those on the builder's pages. Assumes nothing.
 use mathlib.Core.Bool.{false}
-use mathlib.Core.List.{List, [], _∷_}
+use mathlib.Core.List.{List, [], _∷_, _++_}
 use Prim.Native.Nat.{ℕ}
+use lib.ListN.{replicate}
 use Rattle.bits.specs.Bits.{num}
 use Rattle.kinds.specs.declared.types.Kind.{Kind}
 use Rattle.kinds.specs.declared.types.Kind.the-variants.{Cooling, Temperature, Voltage, Current}
@@ -10,6 +11,8 @@ use Rattle.kinds.specs.Settings.{settingsOf, settingsBytes}
 use Rattle.kinds.specs.Control.{controlOf, acted}
 use Rattle.verdicts.specs.Verdict.{verdictOf}
 use Rattle.shown.specs.Status.{shownBy, statusBytes}
+use Rattle.shelf.specs.Formed.{wellFormed}
+use Rattle.status.specs.Page.{statusPage}
 
 pub data Case : Type 0 where
   -- an element of the type with these settings, reading, nominal and thresholds shows these bytes
@@ -18,6 +21,8 @@ pub data Case : Type 0 where
   judges : Kind → ℕ → ℕ → List ℕ → List ℕ → Case
   -- a control element takes these settings to those
   acts : Kind → List ℕ → List ℕ → List ℕ → Case
+  -- the shelf is well formed and has this status page
+  tells : List ℕ → List ℕ → Case
 
 abbrev pub limits : Verdict → List ℕ
 limits v = v .code ∷ num (v .highcrit) ∷ num (v .highwarn) ∷ num (v .lowwarn) ∷ num (v .lowcrit) ∷ []
@@ -27,12 +32,14 @@ abbrev pub given : Case → List ℕ
 given (shows k s r n t b) = statusBytes k (shownBy k (settingsOf k s) r n t)
 given (judges k r n t v) = limits (verdictOf k false r n t)
 given (acts k c s w) = settingsBytes k (acted (controlOf k c) (settingsOf k s))
+given (tells s p) = num (wellFormed s) ∷ statusPage s
 
 -- what document 01 tells
 abbrev pub told : Case → List ℕ
 told (shows k s r n t b) = b
 told (judges k r n t v) = v
 told (acts k c s w) = w
+told (tells s p) = 1 ∷ p
 
 -- no limit trips; the high critical one does; the high warning one does
 abbrev fine : List ℕ
@@ -58,10 +65,41 @@ warning h = 0 ∷ h ∷ 0 ∷ 0 ∷ []
 abbrev on : ℕ → List ℕ
 on n = 0 ∷ 0 ∷ 0 ∷ n ∷ []
 
+-- a fan of A: ON, SPEED 3, with this reading below 256
+abbrev fan : ℕ → List ℕ
+fan r = on 0x23 ++ none ++ (0 ∷ r ∷ 0 ∷ 0 ∷ []) ++ none
+
+-- A: generation 7, one type, 03h, with three fans and the text "Fan"; its identification is zeros
+abbrev shelfA : List ℕ → List ℕ → List ℕ → List ℕ
+shelfA x y z =
+    (0 ∷ 0 ∷ 0 ∷ 7 ∷ [])
+    ++ replicate 36 0
+    ++ (1 ∷ 0 ∷ 0 ∷ 0 ∷ [])
+    ++ (0x03 ∷ 3 ∷ 3 ∷ 0 ∷ 0x46 ∷ 0x61 ∷ 0x6e ∷ [])
+    ++ replicate 29 0
+    ++ replicate 252 0
+    ++ x
+    ++ y
+    ++ z
+
 abbrev pub table : List Case
 table =
+    -- A's status, whole
+    tells (shelfA (fan 120) (fan 120) (fan 120))
+    ((0x02 ∷ 0x00 ∷ 0x00 ∷ 0x14 ∷ 0x00 ∷ 0x00 ∷ 0x00 ∷ 0x07 ∷ [])
+    ++ (0x01 ∷ 0x00 ∷ 0x00 ∷ 0x00 ∷ [])
+    ++ (0x01 ∷ 0x00 ∷ 0x78 ∷ 0x23 ∷ [])
+    ++ (0x01 ∷ 0x00 ∷ 0x78 ∷ 0x23 ∷ [])
+    ++ (0x01 ∷ 0x00 ∷ 0x78 ∷ 0x23 ∷ []))
+    -- a fan ON with reading 0: code 2, page byte 1 is 02h
+    ∷ tells (shelfA (fan 120) (fan 0) (fan 120))
+    ((0x02 ∷ 0x02 ∷ 0x00 ∷ 0x14 ∷ 0x00 ∷ 0x00 ∷ 0x00 ∷ 0x07 ∷ [])
+    ++ (0x02 ∷ 0x00 ∷ 0x00 ∷ 0x00 ∷ [])
+    ++ (0x01 ∷ 0x00 ∷ 0x78 ∷ 0x23 ∷ [])
+    ++ (0x02 ∷ 0x00 ∷ 0x00 ∷ 0x23 ∷ [])
+    ++ (0x01 ∷ 0x00 ∷ 0x78 ∷ 0x23 ∷ []))
     -- fans of A: ON, SPEED 3, reading 120
-    shows Cooling (on 0x23) 120 0 none (0x01 ∷ 0x00 ∷ 0x78 ∷ 0x23 ∷ [])
+    ∷ shows Cooling (on 0x23) 120 0 none (0x01 ∷ 0x00 ∷ 0x78 ∷ 0x23 ∷ [])
     -- wanted SPEED 5
     ∷ acts Cooling (0x80 ∷ 0x00 ∷ 0x00 ∷ 0x25 ∷ []) (on 0x23) (on 0x25)
     -- stored speeds 3, 4, 5, wanted IDENT on all

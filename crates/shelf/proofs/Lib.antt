@@ -3,3 +3,4 @@ pub mod Judged
 pub mod Stages
 pub mod Stored
 pub mod Typed
+pub mod Front

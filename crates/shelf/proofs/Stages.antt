@@ -8,7 +8,6 @@ use lib.Dec.{leb, eqb}
 use lib.ListN.{length}
 use Rattle.bits.proofs.Logic.{and-both}
 use Rattle.shelf.specs.declared.opening.Sizes.{Sizes}
-use Rattle.shelf.specs.declared.opening.Opened.{Opened}
 use Rattle.shelf.specs.declared.opening.Opened.the-variants.{Shelf, NotWellFormed}
 use Rattle.shelf.specs.Limits.{mostElements, elementPlace}
 use Rattle.shelf.specs.Types.{typesOf, elementsOf}

@@ -4,13 +4,13 @@ use mathlib.Core.Bool.{true, _&&_}
 use mathlib.Core.List.{List, [], _∷_}
 use Prim.Native.Nat.{ℕ, _+_, _<_, _≤_}
 use native.Mathlib.Omega.{arith}
-use lib.Dec.{leb, eqb}
+use lib.Dec.{eqb}
 use lib.ListN.{length, getD}
 use borrow.Author.Tests.{eqb-true}
 use Rattle.bits.proofs.Logic.{and-left, and-right}
 use Rattle.bits.proofs.Placed.{Outside, length-put, put-other, put-back}
-use Rattle.shelf.specs.Limits.{mostElements, elementPlace}
-use Rattle.shelf.specs.Types.{typesOf, elementsOf}
+use Rattle.shelf.specs.Limits.{elementPlace}
+use Rattle.shelf.specs.Types.{elementsOf}
 use Rattle.shelf.specs.Elements.{settingsAt, thresholdsAt, settingsPut, thresholdsPut}
 use Rattle.shelf.specs.Formed.{frontFormed, elementsFormed, wellFormed}
 

@@ -2,14 +2,13 @@
 use mathlib.Core.Path.{_≡_, refl, sym, ap, _∙_}
 use mathlib.Core.Bool.{Bool, true, false}
 use mathlib.Core.List.{List, [], _∷_, _++_, append-assoc, append-nil}
-use Prim.Native.Nat.{ℕ, zero, suc, _+_, _*_, _/_, _%_, _≤_}
+use Prim.Native.Nat.{ℕ, zero, suc, _+_, _/_, _%_, _≤_}
 use native.Mathlib.Omega.{arith}
 use lib.Dec.{eqb}
-use lib.ListN.{length, getD, drop, length-append}
+use lib.ListN.{length, drop, length-append}
 use Rattle.bits.specs.Choice.{pick}
 use Rattle.bits.specs.Places.{putFour}
 use Rattle.bits.specs.Rows.{joined}
-use Rattle.bits.specs.Numbers.{bytes}
 use Rattle.bits.specs.Bits.{num}
 use Rattle.bits.proofs.Rows.{length-joined, put-next}
 use Rattle.kinds.specs.declared.types.Kind.{Kind}
@@ -26,7 +25,7 @@ use Rattle.shown.specs.declared.Shown.{Shown}
 use Rattle.shown.specs.Status.{statusBytes}
 use Rattle.pages.specs.declared.slots.Slot.{Slot}
 use Rattle.pages.specs.Slots.{slotsOf, slotAt, slotPlace, slotsPut}
-use Rattle.pages.specs.Header.{headed, header}
+use Rattle.pages.specs.Header.{headed}
 use Rattle.pages.specs.Header as pages
 use Rattle.pages.proofs.Fitted.{page-fits, page-out}
 use Rattle.shows.specs.declared.PageBits.{PageBits}

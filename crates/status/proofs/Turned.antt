@@ -1,14 +1,13 @@
 -- What each step of writing and reading a status page comes to, from what the calls say. Assumes nothing.
 use mathlib.Core.Path.{_≡_, refl, sym, ap, _∙_}
-use mathlib.Core.Bool.{Bool, true, false, not, _&&_}
+use mathlib.Core.Bool.{Bool, true, false, _&&_}
 use mathlib.Core.List.{List, [], _∷_}
 use Prim.Native.Nat.{ℕ, zero, suc, _+_, _<_}
 use native.Mathlib.Numerals.{add-one}
 use native.Mathlib.Omega.{arith}
-use lib.Dec.{ltb}
 use lib.ListN.{length, getD}
 use borrow.Author.Tests.{lt-ltb, le-ltb}
-use Rattle.bits.specs.Choice.{pick, allBelow, firstBelow}
+use Rattle.bits.specs.Choice.{allBelow}
 use Rattle.bits.specs.Bits.{only}
 use Rattle.bits.specs.Numbers.{big}
 use Rattle.bits.specs.Places.{twoAt, fourAt, putFour}

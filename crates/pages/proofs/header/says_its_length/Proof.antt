@@ -5,8 +5,7 @@ use lib.Dec.{eqb}
 use lib.ListN.{length}
 use denote.Ref.{now}
 use Rattle.pages.specs.Header.{lengthSaid}
-use mathlib.Core.Path.{_≡_, refl, sym, ap, _∙_}
-use native.Mathlib.Omega.{arith}
+use mathlib.Core.Path.{ap}
 use borrow.Author.Needs.{needs}
 use Rattle.pages.proofs.header.says_its_length.Statement.{statement}
 use Rattle.pages.proofs.header.says_its_length.Tie as tie

@@ -2,7 +2,7 @@
 use Rattle.pages.proofs.Counted.{start-none, start-read, found}
 use mathlib.Core.Path.{_≡_, refl, sym, ap, _∙_}
 use mathlib.Core.Bool.{true, not}
-use Prim.Native.Nat.{ℕ, _+_, _*_, _≤_, _-_}
+use Prim.Native.Nat.{_+_, _*_, _≤_, _-_}
 use native.Mathlib.Omega.{arith}
 use borrow.Author.Needs.{needs}
 use denote.Ref.{now}
@@ -10,7 +10,7 @@ use borrow.Author.Tests.{lt-ltb, le-ltb}
 use Rattle.bits.specs.Choice.{allBelow}
 use Rattle.bits.proofs.Logic.{fails, first-at, first-none, below-next}
 use Rattle.shelf.specs.Limits.{mostTypes}
-use Rattle.pages.specs.Slots.{startOf, inType, slotType}
+use Rattle.pages.specs.Slots.{startOf, inType}
 use Rattle.pages.proofs.slots.find.Statement.{statement}
 use Rattle.pages.proofs.slots.find.Tie as tie
 

@@ -1,7 +1,6 @@
 -- `status::entries::entry_at` meets its contract. Assumes nothing.
 use denote.Ref.{now}
 use Rattle.status.proofs.Turned.{entry-read}
-use Rattle.status.specs.Entries.{entryAt}
 use borrow.Author.Needs.{needs}
 use Rattle.status.proofs.entries.entry_at.Statement.{statement}
 use Rattle.status.proofs.entries.entry_at.Tie as tie

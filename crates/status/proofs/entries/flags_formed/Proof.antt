@@ -1,7 +1,6 @@
 -- `status::entries::flags_formed` meets its contract. Assumes nothing.
 use denote.Ref.{now}
 use Rattle.status.proofs.Turned.{flags-read}
-use Rattle.status.specs.Entries.{flagsFormed}
 use borrow.Author.Needs.{needs}
 use Rattle.status.proofs.entries.flags_formed.Statement.{statement}
 use Rattle.status.proofs.entries.flags_formed.Tie as tie

@@ -1,5 +1,5 @@
 -- `status::page::slot_bytes` meets its contract. Assumes nothing.
-use mathlib.Core.Path.{_≡_, refl, sym, ap, _∙_}
+use mathlib.Core.Path.{sym, _∙_}
 use Rattle.bits.proofs.Logic.{pick-yes, pick-no}
 use Rattle.status.specs.Page.{slotBytes}
 use borrow.Author.Needs.{needs}

@@ -1,0 +1,120 @@
+-- The slots of a well-formed shelf: each is in a type that is there, and the shelf's front has the same. Assumes nothing.
+use mathlib.Core.Path.{_≡_, refl, sym, ap, ap₂, _∙_}
+use mathlib.Core.Bool.{Bool, true, false, not}
+use mathlib.Core.List.{List}
+use Prim.Native.Nat.{ℕ, zero, suc, _+_, _<_, _≤_, _-_}
+use native.Mathlib.Nat.{add-zero}
+use native.Mathlib.Omega.{arith}
+use lib.Dec.{ltb}
+use borrow.Author.Tests.{ltb-true, ltb-false, lt-ltb, le-ltb, eq-eqb}
+use Rattle.bits.specs.Choice.{pick, firstBelow}
+use Rattle.bits.proofs.Logic.{never, pick-no, fails, below-all, first-passes, first-fails, first-at}
+use Rattle.kinds.specs.Types.{kindOf}
+use Rattle.shelf.specs.Limits.{mostTypes}
+use Rattle.shelf.specs.Types.{typeCode, before, elementsOf, within, typeOf, kindAt}
+use Rattle.shelf.specs.Formed.{frontFormed}
+use Rattle.shelf.proofs.Counts.{before-next}
+use Rattle.shelf.proofs.Front.{front, front-get, types-same, code-same, count-same, before-same, elements-same}
+use Rattle.pages.specs.Slots.{slotsOf, startOf, inType, slotType, isOverall, slotAt}
+use Rattle.pages.specs.Header.{header}
+use Rattle.pages.proofs.Slotted.{start-below}
+use Rattle.pages.proofs.Bounds.{types-bound}
+
+first-same : (f g : ℕ → Bool) (n : ℕ) → ((k : ℕ) → k < n → f k ≡ g k) → firstBelow f n ≡ firstBelow g n
+first-same f g zero h = refl
+first-same f g (suc n) h =
+    let e = first-same f g n (λ k l. h k (omega arith)) in
+    ap₂ (λ (m : ℕ) (b : Bool). pick (ltb m n) m (pick b n (suc n))) e (h n (omega arith))
+
+module _ (s : List ℕ) where
+  start-same : (t : ℕ) → t ≤ mostTypes → startOf (front s) t ≡ startOf s t
+  unfolding startOf
+  start-same t h = ap (λ (n : ℕ). n + t) (before-same s t h)
+
+  type-same : (i : ℕ) → slotType (front s) i ≡ slotType s i
+  unfolding slotType
+  type-same i =
+      first-same (inType (front s) i) (inType s i) mostTypes (λ t l. ap (λ (n : ℕ). ltb i n) (start-same (t + 1) (omega arith)))
+
+  pub slots-same : slotsOf (front s) ≡ slotsOf s
+  unfolding slotsOf
+  slots-same = ap₂ _+_ (types-same s) (elements-same s)
+
+  pub header-same : (code own n : ℕ) → header (front s) code own n ≡ header s code own n
+  unfolding header
+  header-same code own n = rw (front-get s 0 (omega arith), front-get s 1 (omega arith), front-get s 2 (omega arith), front-get s 3 (omega arith))
+
+  before-up : (t n : ℕ) → before s t ≤ before s (t + n)
+  before-up t zero = rw add-zero (omega arith)
+  before-up t (suc n) =
+      let e : t + suc n ≡ t + n + 1 = omega arith in
+      rw e (omega (arith, before-up t n, before-next s (t + n)))
+
+  -- an element stands in the type that it starts after and ends before
+  typed : (t j : ℕ) → t < mostTypes → before s t ≤ j → j < before s (t + 1) → typeOf s j ≡ t
+  unfolding typeOf
+  typed t j l a b =
+      first-at (within s j) mostTypes t l
+      (below-all (fails (within s j)) t
+      (λ k m. ap not (le-ltb j (before s (k + 1)) (let e : t ≡ k + 1 + (t - (k + 1)) = omega arith in let u = before-up (k + 1) (t - (k + 1)) in let v : before s (k + 1) ≤ before s t = rw (← e) at u in omega arith))))
+      (lt-ltb j (before s (t + 1)) b)
+
+  module _ (w : frontFormed s ≡ true) (i : ℕ) (h : i < slotsOf s) where
+    in-last : i < startOf s mostTypes
+    unfolding slotsOf startOf elementsOf
+    in-last = omega (arith, types-bound s w, h)
+
+    -- the slot is in a type
+    pub slot-below : slotType s i < mostTypes
+    unfolding slotType
+    slot-below = go (ltb (firstBelow (inType s i) mostTypes) mostTypes) refl
+      where
+        go : (t : Bool) → ltb (firstBelow (inType s i) mostTypes) mostTypes ≡ t → firstBelow (inType s i) mostTypes < mostTypes
+        go true e = ltb-true _ mostTypes e
+        go false e =
+            let l = ltb-false (firstBelow (inType s i) mostTypes) mostTypes e in
+            let p : inType s i (mostTypes - 1) ≡ true = lt-ltb i (startOf s mostTypes) in-last in
+            let q = first-fails (inType s i) mostTypes (mostTypes - 1) (omega arith) in
+            never (sym p ∙ q)
+
+    slot-end : i < startOf s (slotType s i + 1)
+    unfolding slotType
+    slot-end = ltb-true i (startOf s (firstBelow (inType s i) mostTypes + 1)) (first-passes (inType s i) mostTypes slot-below)
+
+    -- the front has the same slot
+    pub slot-same : slotAt (front s) i ≡ slotAt s i
+    unfolding slotAt isOverall
+    slot-same =
+        let t = slotType s i in
+        rw (type-same i, start-same t (omega (arith, slot-below)), code-same s t slot-below, count-same s t slot-below)
+
+    -- an individual slot's element is there, and of the slot's type
+    module _ (o : slotAt s i .overall ≡ false) where
+      after-start : startOf s (slotType s i) < i
+      unfolding slotAt isOverall
+      after-start =
+          let e : i ≡ startOf s (slotType s i) → ⊥ = λ q. never (sym (eq-eqb i (startOf s (slotType s i)) q) ∙ o) in
+          omega (arith, start-below s i, e)
+
+      pub first-is : slotAt s i .first ≡ i - slotType s i - 1
+      unfolding slotAt
+      first-is = pick-no _ _ _ o
+
+      pub first-typed : typeOf s (slotAt s i .first) ≡ slotType s i
+      unfolding startOf
+      first-typed =
+          let t = slotType s i in
+          rw first-is
+          (typed t (i - t - 1) slot-below (omega (arith, after-start)) (omega (arith, after-start, slot-end)))
+
+      pub first-there : slotAt s i .first < elementsOf s
+      unfolding elementsOf startOf
+      first-there =
+          let t = slotType s i in
+          let e : mostTypes ≡ t + 1 + (mostTypes - (t + 1)) = omega (arith, slot-below) in
+          let u : before s (t + 1) ≤ before s mostTypes = rw (← e) at (before-up (t + 1) (mostTypes - (t + 1))) in
+          rw first-is (omega (arith, after-start, slot-end, u))
+
+      pub kind-first : kindAt s (slotAt s i .first) ≡ slotAt s i .kind
+      unfolding kindAt slotAt
+      kind-first = ap (λ (t : ℕ). kindOf (typeCode s t)) first-typed

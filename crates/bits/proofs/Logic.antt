@@ -15,6 +15,10 @@ use Rattle.bits.specs.Choice.{pick, allBelow, firstBelow}
 pub never : {A : Type 0} → true ≡ false → A
 never e = let z : _≡_ {A = ℕ} 0 1 = cc in absurd (omega arith)
 
+pub by-case : {A : Type 0} (t : Bool) → (t ≡ true → A) → (t ≡ false → A) → A
+by-case true f g = f refl
+by-case false f g = g refl
+
 pub pick-yes : {A : Type 0} (t : Bool) (a b : A) → t ≡ true → pick t a b ≡ a
 pick-yes true a b e = refl
 pick-yes false a b e = never (sym e)

@@ -18,7 +18,7 @@ use Rattle.shelf.proofs.Front.{front, front-get, types-same, code-same, count-s
 use Rattle.pages.specs.Slots.{slotsOf, startOf, inType, slotType, isOverall, slotAt}
 use Rattle.pages.specs.Header.{header}
 use Rattle.pages.proofs.Slotted.{start-below}
-use Rattle.pages.proofs.Bounds.{types-bound}
+use Rattle.shelf.proofs.Parts.{few-types}
 
 first-same : (f g : ℕ → Bool) (n : ℕ) → ((k : ℕ) → k < n → f k ≡ g k) → firstBelow f n ≡ firstBelow g n
 first-same f g zero h = refl
@@ -62,7 +62,7 @@ module _ (s : List ℕ) where
   module _ (w : frontFormed s ≡ true) (i : ℕ) (h : i < slotsOf s) where
     in-last : i < startOf s mostTypes
     unfolding slotsOf startOf elementsOf
-    in-last = omega (arith, types-bound s w, h)
+    in-last = omega (arith, few-types s w, h)
 
     -- the slot is in a type
     pub slot-below : slotType s i < mostTypes

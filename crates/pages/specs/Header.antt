@@ -1,4 +1,4 @@
--- The header of the pages 02h and 05h. Assumes nothing.
+-- The first tests of a call, and the header of the pages 02h and 05h. Assumes nothing.
 use mathlib.Core.Bool.{Bool}
 use mathlib.Core.List.{List, _∷_, _++_}
 use Prim.Native.Nat.{ℕ, _+_, _-_}
@@ -6,11 +6,20 @@ use lib.Dec.{eqb, leb}
 use lib.ListN.{length, getD}
 use Rattle.bits.specs.Numbers.{big, bytes}
 use Rattle.bits.specs.Places.{twoAt, fourAt, putFour}
-use Rattle.refusals.specs.declared.Refusal.the-variants.{PageTooShort, PageCode, PageLength, Generation}
+use Rattle.refusals.specs.declared.Refusal.the-variants.{ShelfNotWellFormed, PageTooShort, PageCode, PageLength, Generation}
 use Rattle.refusals.specs.declared.Answer.{Answer}
 use Rattle.refusals.specs.declared.Answer.the-variants.{Accepted}
 use Rattle.refusals.specs.Outcomes.{unless}
+use Rattle.shelf.specs.Formed.{wellFormed, configurationFormed}
 use Rattle.pages.specs.Slots.{slotPlace}
+
+-- 1: the shelf record is not well formed
+abbrev pub shelfAsked : List ℕ → Answer
+shelfAsked s = unless (wellFormed s) ShelfNotWellFormed Accepted
+
+-- the same of the configuration that readers take type list and generation from
+abbrev pub configurationAsked : List ℕ → Answer
+configurationAsked c = unless (configurationFormed c) ShelfNotWellFormed Accepted
 
 -- the bytes given are page length + 4
 unfoldable pub lengthSaid : List ℕ → Bool

@@ -1,27 +1,123 @@
 // The public calls. Each takes whatever bytes it is given, and answers with a value or with one refusal.
 //
-// A call that starts with `ses_` is the same for C; include/ses.h declares it.
+// The module `c` has the same calls for C; include/ses.h declares them.
+pub mod c;
+
 use refusals::Answer;
 use refusals::Refusal;
+use refusals::Written;
+use shelf::limits;
+use shelf::opening;
 use shelf::opening::Opened;
 ghost use mathlib.Core.Path.{_≡_};
-ghost use Rattle.refusals.specs.Numbers.{answerNumber};
-ghost use Rattle.ses.specs.Calls.{checked};
+ghost use Rattle.refusals.specs.Outcomes.{outAfter, recordAfter};
+ghost use Rattle.pages.specs.Header.{shelfAsked};
+ghost use Rattle.configuration.specs.Page.{configurationPage};
+ghost use Rattle.configuration.specs.Read.{configurationRead};
+ghost use Rattle.configuration.specs.Told.{configurationOf};
+ghost use Rattle.status.specs.Page.{statusPage};
+ghost use Rattle.status.specs.Read.{statusRead, statusRecord};
+ghost use Rattle.status_again.specs.Again as statusAgain;
+ghost use Rattle.threshold_in.specs.Page.{thresholdPage};
+ghost use Rattle.threshold_in.specs.Read.{thresholdRead, thresholdRecord};
+ghost use Rattle.threshold_in.specs.Again as thresholdsAgain;
+ghost use Rattle.ses.specs.Calls.{configurationWritten, statusWritten, thresholdsWritten, configurationRewritten, statusRewritten, thresholdsRewritten};
 
 // Is this block a well-formed shelf?
 pub fn check(shelf: &[u8]) -> Answer
-    ensures { λ r. ⌜ r ≡ checked (now (shelf .entry)) ⌝ }
+    ensures { λ r. ⌜ r ≡ shelfAsked (now (shelf .entry)) ⌝ }
 {
-    let opened = shelf::opening::open_shelf(shelf);
+    let opened = opening::open_shelf(shelf);
     let Opened::Shelf(_) = opened else {
         return Answer::Refused(Refusal::ShelfNotWellFormed);
     };
     Answer::Accepted
 }
 
-#[no_mangle]
-pub extern "C" fn ses_check(shelf: &[u8]) -> u8
-    ensures { λ r. ⌜ r ≡ answerNumber (checked (now (shelf .entry))) ⌝ }
+pub fn write_configuration(shelf: &[u8], out: &mut [u8]) -> Written
+    ensures { λ r. ⌜ r ≡ configurationWritten (now (shelf .entry)) (now (out .entry)) ⌝ }
+    ensures { λ r. ⌜ now (out .exit) ≡ outAfter r (configurationPage (now (shelf .entry))) (now (out .entry)) ⌝ }
 {
-    check(shelf).number()
+    let opened = opening::open_shelf(shelf);
+    let Opened::Shelf(_) = opened else {
+        return Written::Refused(Refusal::ShelfNotWellFormed);
+    };
+    configuration::page::write(shelf, out)
+}
+
+pub fn write_status(shelf: &[u8], out: &mut [u8]) -> Written
+    ensures { λ r. ⌜ r ≡ statusWritten (now (shelf .entry)) (now (out .entry)) ⌝ }
+    ensures { λ r. ⌜ now (out .exit) ≡ outAfter r (statusPage (now (shelf .entry))) (now (out .entry)) ⌝ }
+{
+    status::page::write(shelf, out)
+}
+
+pub fn write_thresholds(shelf: &[u8], out: &mut [u8]) -> Written
+    ensures { λ r. ⌜ r ≡ thresholdsWritten (now (shelf .entry)) (now (out .entry)) ⌝ }
+    ensures { λ r. ⌜ now (out .exit) ≡ outAfter r (thresholdPage (now (shelf .entry))) (now (out .entry)) ⌝ }
+{
+    threshold_in::page::write(shelf, out)
+}
+
+pub fn read_configuration(page: &[u8], configuration: &mut [u8; limits::CONFIGURATION]) -> Answer
+    ensures { λ r. ⌜ r ≡ configurationRead (now (page .entry)) ⌝ }
+    ensures { λ r. ⌜ now (configuration .exit) ≡ recordAfter r (configurationOf (now (page .entry))) (now (configuration .entry)) ⌝ }
+{
+    configuration::reading::read(page, configuration)
+}
+
+pub fn read_status(
+    configuration: &[u8],
+    page: &[u8],
+    fields: &mut [u8; status_record::LENGTH],
+) -> Answer
+    ensures { λ r. ⌜ r ≡ statusRead (now (configuration .entry)) (now (page .entry)) ⌝ }
+    ensures { λ r. ⌜ now (fields .exit) ≡ recordAfter r (statusRecord (now (configuration .entry)) (now (page .entry))) (now (fields .entry)) ⌝ }
+{
+    status::reading::read(configuration, page, fields)
+}
+
+pub fn read_thresholds(
+    configuration: &[u8],
+    page: &[u8],
+    fields: &mut [u8; threshold_in::reading::LENGTH],
+) -> Answer
+    ensures { λ r. ⌜ r ≡ thresholdRead (now (configuration .entry)) (now (page .entry)) ⌝ }
+    ensures { λ r. ⌜ now (fields .exit) ≡ recordAfter r (thresholdRecord (now (configuration .entry)) (now (page .entry))) (now (fields .entry)) ⌝ }
+{
+    threshold_in::reading::read(configuration, page, fields)
+}
+
+// The `rewrite` calls write again what a reader handed back.
+pub fn rewrite_configuration(configuration: &[u8], out: &mut [u8]) -> Written
+    ensures { λ r. ⌜ r ≡ configurationRewritten (now (configuration .entry)) (now (out .entry)) ⌝ }
+    ensures { λ r. ⌜ now (out .exit) ≡ outAfter r (configurationPage (now (configuration .entry))) (now (out .entry)) ⌝ }
+{
+    let opened = opening::open_configuration(configuration);
+    let Opened::Shelf(_) = opened else {
+        return Written::Refused(Refusal::ShelfNotWellFormed);
+    };
+    configuration::page::write(configuration, out)
+}
+
+pub fn rewrite_status(
+    configuration: &[u8],
+    fields: &[u8; status_record::LENGTH],
+    out: &mut [u8],
+) -> Written
+    ensures { λ r. ⌜ r ≡ statusRewritten (now (configuration .entry)) (now (fields .entry)) (now (out .entry)) ⌝ }
+    ensures { λ r. ⌜ now (out .exit) ≡ outAfter r (statusAgain.pageAgain (now (configuration .entry)) (now (fields .entry))) (now (out .entry)) ⌝ }
+{
+    status_again::write(configuration, fields, out)
+}
+
+pub fn rewrite_thresholds(
+    configuration: &[u8],
+    fields: &[u8; threshold_in::reading::LENGTH],
+    out: &mut [u8],
+) -> Written
+    ensures { λ r. ⌜ r ≡ thresholdsRewritten (now (configuration .entry)) (now (fields .entry)) (now (out .entry)) ⌝ }
+    ensures { λ r. ⌜ now (out .exit) ≡ outAfter r (thresholdsAgain.pageAgain (now (configuration .entry)) (now (fields .entry))) (now (out .entry)) ⌝ }
+{
+    threshold_in::again::write(configuration, fields, out)
 }

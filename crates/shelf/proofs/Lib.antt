@@ -4,3 +4,4 @@ pub mod Stages
 pub mod Stored
 pub mod Typed
 pub mod Front
+pub mod Parts

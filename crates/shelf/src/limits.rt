@@ -32,6 +32,9 @@ const FIRST_ELEMENT: u32 = FIRST_TYPE + TYPE_SIZE as u32 * MOST_TYPES as u32;
 
 const ELEMENT_SIZE: u32 = 16;
 
+// The bytes of a configuration: the block up to its first element.
+pub const CONFIGURATION: usize = FIRST_ELEMENT as usize;
+
 pub fn type_place(t: u16) -> u32
     ensures { λ r. ⌜ r ≡ typePlace t ⌝ }
 {

@@ -10,7 +10,7 @@ use borrow.Author.Tests.{eq-eqb, le-ltb}
 use Rattle.bits.specs.Choice.{pick, allBelow}
 use Rattle.bits.specs.Bits.{only, nibble, bit}
 use Rattle.bits.specs.Places.{fourAt}
-use Rattle.bits.proofs.Logic.{pick-yes, pick-no, and-left, and-right, below-at, below-all, fails}
+use Rattle.bits.proofs.Logic.{by-case, pick-yes, pick-no, and-left, and-right, below-at, below-all, fails}
 use Rattle.bits.proofs.Halves.{nibble-bits}
 use Rattle.bits.proofs.Widths.{Bytes}
 use Rattle.bits.proofs.Rows.{joined-same}
@@ -38,11 +38,10 @@ use Rattle.pages.proofs.HeadAgain.{byte-small, head-written}
 use Rattle.shows.specs.declared.PageBits.{PageBits}
 use Rattle.shows.specs.Shows.{shownAt, worst, has, shownIn, pageBits, bitsByte}
 use Rattle.status.specs.Page.{slotBytes, slotRow, pageWith, statusPage}
-use Rattle.status.specs.Entries.{entryBytes, headRow}
-use Rattle.status.specs.Read.{slotOffending, slotRefused, statusRead, slotShown, bitsOn, recordWith, statusRecord}
+use Rattle.status_record.specs.Entries.{recordWith, entryBytes, headRow}
+use Rattle.status.specs.Read.{slotOffending, slotRefused, statusRead, slotShown, bitsOn, statusRecord}
 use Rattle.status.proofs.Asked.{row-length, page-read}
 use Rattle.status.proofs.Turned.{none-refused}
-use Rattle.status.proofs.Back.{by-case}
 
 -- the worst code is one that may be shown
 picked-allowed : (a b c d : Bool) → codeAllowed (pick a 2 (pick b 3 (pick c 6 (pick d 1 0)))) ≡ true

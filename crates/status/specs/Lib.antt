@@ -1,4 +1,2 @@
 pub mod Page
-pub mod Entries
 pub mod Read
-pub mod Again

@@ -3,11 +3,6 @@ use mathlib.Core.List.{List, [], _∷_, _++_}
 use Prim.Native.Nat.{ℕ}
 use Rattle.bits.specs.Choice.{pick}
 use Rattle.bits.specs.Rows.{joined}
-use Rattle.refusals.specs.declared.Refusal.the-variants.{ShelfNotWellFormed}
-use Rattle.refusals.specs.declared.Answer.{Answer}
-use Rattle.refusals.specs.declared.Answer.the-variants.{Accepted}
-use Rattle.refusals.specs.Outcomes.{unless}
-use Rattle.shelf.specs.Formed.{wellFormed}
 use Rattle.shown.specs.declared.Shown.{Shown}
 use Rattle.shown.specs.Status.{statusBytes}
 use Rattle.pages.specs.declared.slots.Slot.{Slot}
@@ -30,7 +25,3 @@ pageWith c b f = header c 0x02 (bitsByte b) (slotsOf c) ++ joined (slotRow c f) 
 -- the page of a shelf
 unfoldable pub statusPage : List ℕ → List ℕ
 statusPage s = pageWith s (pageBits s) (shownIn s)
-
--- 1: the shelf record is not well formed
-abbrev pub shelfAsked : List ℕ → Answer
-shelfAsked s = unless (wellFormed s) ShelfNotWellFormed Accepted

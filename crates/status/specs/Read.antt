@@ -1,13 +1,12 @@
 -- The status page read: which pages are refused, and what the others show. Assumes nothing.
 use mathlib.Core.Bool.{Bool}
-use mathlib.Core.List.{List, [], _∷_, _++_}
+use mathlib.Core.List.{List, [], _∷_}
 use Prim.Native.Nat.{ℕ, _+_}
 use lib.Dec.{eqb, ltb}
 use lib.ListN.{getD}
 use Rattle.bits.specs.Choice.{pick, firstBelow}
 use Rattle.bits.specs.Bits.{bit, only}
 use Rattle.bits.specs.Places.{fourAt}
-use Rattle.bits.specs.Rows.{joined}
 use Rattle.refusals.specs.declared.Refusal.the-variants.{ShelfNotWellFormed, NotAllowed}
 use Rattle.refusals.specs.declared.Answer.{Answer}
 use Rattle.refusals.specs.declared.Answer.the-variants.{Accepted}
@@ -19,7 +18,7 @@ use Rattle.pages.specs.declared.slots.Slot.{Slot}
 use Rattle.pages.specs.Slots.{slotsOf, slotAt, slotPlace}
 use Rattle.pages.specs.Header.{headed}
 use Rattle.shows.specs.declared.PageBits.{PageBits}
-use Rattle.status.specs.Entries.{headRow, entryBytes}
+use Rattle.status_record.specs.Entries.{recordWith}
 
 -- the first byte of slot i that is refused, 4 if none is
 unfoldable pub slotOffending : List ℕ → List ℕ → ℕ → ℕ
@@ -57,8 +56,5 @@ unfoldable pub bitsOn : List ℕ → PageBits
 bitsOn p = record { noncritical = bit 2 (getD p 1 0); critical = bit 1 (getD p 1 0) }
 
 -- the record of shown fields
-abbrev pub recordWith : PageBits → (ℕ → Shown) → ℕ → List ℕ
-recordWith b f n = headRow b n ++ joined (λ i. entryBytes (f i)) n
-
 unfoldable pub statusRecord : List ℕ → List ℕ → List ℕ
 statusRecord c p = recordWith (bitsOn p) (slotShown c p) (slotsOf c)

@@ -1,5 +1,3 @@
-// The status page (02h): written from a shelf, read, and written again from what was read.
-pub mod again;
-pub mod entries;
+// The status page (02h): written from a shelf, and read.
 pub mod page;
 pub mod reading;

@@ -10,10 +10,10 @@ use shown::Shown;
 use shows::PageBits;
 ghost use mathlib.Core.Path.{_≡_};
 ghost use Rattle.refusals.specs.Outcomes.{writes, outAfter};
-ghost use Rattle.shelf.specs.Formed.{wellFormed};
 ghost use Rattle.shows.specs.Shows.{shownIn};
 ghost use Rattle.pages.specs.Slots.{slotsPut};
-ghost use Rattle.status.specs.Page.{slotBytes, slotRow, shelfAsked, statusPage};
+ghost use Rattle.pages.specs.Header.{shelfAsked};
+ghost use Rattle.status.specs.Page.{slotBytes, slotRow, statusPage};
 
 pub const CODE: u8 = 0x02;
 

@@ -1,5 +1,4 @@
 // The page read, under a configuration.
-use crate::entries;
 use crate::page;
 use pages::header;
 use pages::slots;
@@ -11,7 +10,7 @@ use shown::Shown;
 use shows::PageBits;
 ghost use mathlib.Core.Path.{_≡_};
 ghost use Rattle.refusals.specs.Outcomes.{recordAfter};
-ghost use Rattle.status.specs.Entries.{entriesPut};
+ghost use Rattle.status_record.specs.Entries.{entriesPut};
 ghost use Rattle.status.specs.Read.{slotOffending, offence, slotShown, bitsOn, statusRead, statusRecord};
 
 // The first byte of slot i that is refused; 4 if none is.
@@ -74,12 +73,12 @@ fn put_entries(configuration: &[u8], page: &[u8], fields: &mut [u8], n: u16)
 {
     let mut i: u16 = 0;
     while i < n {
-        entries::put_entry(fields, i, slot_shown(configuration, page, i));
+        status_record::put_entry(fields, i, slot_shown(configuration, page, i));
         i += 1;
     }
 }
 
-pub fn read(configuration: &[u8], page: &[u8], fields: &mut [u8; entries::LENGTH]) -> Answer
+pub fn read(configuration: &[u8], page: &[u8], fields: &mut [u8; status_record::LENGTH]) -> Answer
     ensures { λ r. ⌜ r ≡ statusRead (now (configuration .entry)) (now (page .entry)) ⌝ }
     ensures { λ r. ⌜ now (fields .exit) ≡ recordAfter r (statusRecord (now (configuration .entry)) (now (page .entry))) (now (fields .entry)) ⌝ }
 {
@@ -95,7 +94,7 @@ pub fn read(configuration: &[u8], page: &[u8], fields: &mut [u8; entries::LENGTH
     if first_offence(configuration, page, n) != slots::slot_place(n) {
         return Answer::Refused(Refusal::NotAllowed);
     }
-    entries::put_head(fields, bits_on(page), n);
+    status_record::put_head(fields, bits_on(page), n);
     put_entries(configuration, page, fields, n);
     Answer::Accepted
 }

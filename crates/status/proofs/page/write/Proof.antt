@@ -4,7 +4,7 @@ use native.Mathlib.Omega.{arith}
 use denote.Ref.{now}
 use Rattle.shelf.proofs.Stages.{formed-sizes, not-formed}
 use Rattle.shelf.proofs.Typed.{front-formed}
-use Rattle.pages.proofs.Bounds.{types-bound, elements-bound}
+use Rattle.shelf.proofs.Parts.{few-types, few-elements}
 use Rattle.pages.proofs.Counted.{slots-are}
 use Rattle.pages.proofs.Fitted.{out-kept}
 use Rattle.shows.specs.Shows.{shownIn, pageBits, bitsByte}
@@ -27,7 +27,7 @@ returns : tie.Need-returns
 returns c = let s = now (c .before .before .before .before .before .args .shelf) in (no-shelf s (now (c .before .before .before .before .before .args .out)) (not-formed s (sym (c .before .before .open-shelf .ensures) ∙ c .enum-told .given .1)), refl)
 
 add-n : tie.Need-add-n
-add-n c = let s = now (c .before .before .before .before .before .before .before .args .shelf) in let z = formed-sizes s (sym (c .before .before .before .before .open-shelf .ensures) ∙ c .before .before .opened .given .1) in omega (arith, z .1, z .2, types-bound s (front-formed s (z .0)), elements-bound s (front-formed s (z .0)))
+add-n c = let s = now (c .before .before .before .before .before .before .before .args .shelf) in let z = formed-sizes s (sym (c .before .before .before .before .open-shelf .ensures) ∙ c .before .before .opened .given .1) in omega (arith, z .1, z .2, few-types s (front-formed s (z .0)), few-elements s (front-formed s (z .0)))
 
 slot-place-requires : tie.Need-slot-place-requires
 slot-place-requires c κs = search needs

@@ -4,9 +4,9 @@ use Prim.Native.Nat.{_-_, _≤_}
 use native.Mathlib.Omega.{arith}
 use denote.Ref.{now}
 use borrow.Author.Needs.{needs}
-use Rattle.status.specs.Entries.{entriesPut}
+use Rattle.status_record.specs.Entries.{entriesPut}
 use Rattle.status.specs.Read.{slotShown}
-use Rattle.status.proofs.Turned.{entries-next, length-entries}
+use Rattle.status_record.proofs.Turned.{entries-next, length-entries}
 use Rattle.status.proofs.reading.put_entries.Statement.{statement}
 use Rattle.status.proofs.reading.put_entries.Tie as tie
 

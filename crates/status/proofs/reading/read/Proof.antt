@@ -4,7 +4,8 @@ use native.Mathlib.Omega.{arith}
 use denote.Ref.{now}
 use borrow.Author.Tests.{eq-eqb, ne-eqb}
 use Rattle.shelf.proofs.Stages.{configuration-sizes, not-configuration}
-use Rattle.pages.proofs.Bounds.{configuration-front, types-bound, elements-bound, slots-bound}
+use Rattle.pages.proofs.Bounds.{configuration-front, slots-bound}
+use Rattle.shelf.proofs.Parts.{few-types, few-elements}
 use Rattle.pages.proofs.Counted.{slots-are}
 use Rattle.pages.proofs.Fitted.{record-kept}
 use Rattle.status.specs.Read.{statusRecord}
@@ -26,7 +27,7 @@ returns : tie.Need-returns
 returns c = let s = c .before .before .before .before .before .args in (no-configuration (now (s .configuration)) (now (s .page)) (not-configuration (now (s .configuration)) (sym (c .before .before .open-configuration .ensures) ∙ c .enum-told .given .1)), refl)
 
 add-n : tie.Need-add-n
-add-n c = let s = now (c .before .before .before .before .before .before .before .args .configuration) in let z = configuration-sizes s (sym (c .before .before .before .before .open-configuration .ensures) ∙ c .before .before .opened .given .1) in let h = configuration-front s (z .0) in omega (arith, z .1, z .2, types-bound s h, elements-bound s h)
+add-n c = let s = now (c .before .before .before .before .before .before .before .args .configuration) in let z = configuration-sizes s (sym (c .before .before .before .before .open-configuration .ensures) ∙ c .before .before .opened .given .1) in let h = configuration-front s (z .0) in omega (arith, z .1, z .2, few-types s h, few-elements s h)
 
 test-requires : tie.Need-test-requires
 test-requires c κs = search needs

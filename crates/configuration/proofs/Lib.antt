@@ -1,0 +1,9 @@
+pub mod Runs
+pub mod Turns
+pub mod Fitted
+pub mod Tested
+pub mod OnPage
+pub mod Back
+pub mod Passed
+pub mod Handed
+pub mod Again

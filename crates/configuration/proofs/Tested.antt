@@ -1,0 +1,88 @@
+-- The tests of a configuration page: of one byte, and all of them one after the other. Assumes nothing.
+use mathlib.Core.Path.{_≡_, sym, ap, _∙_}
+use mathlib.Core.Bool.{Bool, true, false, not}
+use mathlib.Core.Logic.{_⊎_, inl, inr, ⊎-elim}
+use mathlib.Core.List.{List, _++_, append-nil}
+use Prim.Native.Nat.{ℕ, _-_, _/_, _%_, _<_, _≤_}
+use native.Mathlib.Omega.{arith}
+use lib.Dec.{eqb, leb}
+use lib.ListN.{length, getD, drop-of-length-le}
+use borrow.Author.Tests.{lt-ltb, le-ltb, eq-eqb, ne-eqb}
+use Rattle.bits.specs.Choice.{firstBelow}
+use Rattle.bits.proofs.Logic.{pick-yes, pick-no}
+use Rattle.refusals.specs.declared.Refusal.the-variants.{PageTooShort, PageCode, PageLength, NotAllowed}
+use Rattle.refusals.specs.declared.Answer.the-variants.{Accepted, Refused}
+use Rattle.refusals.specs.Outcomes.{recordAfter}
+use Rattle.shelf.specs.Limits.{elementPlace}
+use Rattle.pages.specs.Header.{lengthSaid}
+use Rattle.configuration.specs.Page.{headerPlace}
+use Rattle.configuration.specs.Read.{typesOn, neededLength, fixedOffends, headerOffends, textOffends, offends, firstOffence, configurationRead}
+use Rattle.configuration.specs.Told.{configurationOf, configurationPut}
+use Rattle.configuration.proofs.Fitted.{length-configuration, told-whole}
+
+-- a byte that is zero on every page
+pub zero-offends : (k b : ℕ) → (k ≡ 1) ⊎ (k ≡ 9) → not (eqb b 0) ≡ fixedOffends k b
+unfolding fixedOffends
+zero-offends k b h = ⊎-elim (λ (e : k ≡ 1). rw (eq-eqb k 1 e)) (λ (e : k ≡ 9). rw (ne-eqb k 1 (λ q. omega arith), eq-eqb k 9 e)) h
+
+pub none-offends : (k b : ℕ) → ((k ≡ 1) ⊎ (k ≡ 9) → ⊥) → (k ≡ 8 → ⊥) → (k ≡ 10 → ⊥) → (k ≡ 11 → ⊥) → false ≡ fixedOffends k b
+unfolding fixedOffends
+none-offends k b h i j l = rw (ne-eqb k 1 (λ e. h (inl e)), ne-eqb k 9 (λ e. h (inr e)), ne-eqb k 8 i, ne-eqb k 10 j, ne-eqb k 11 l)
+
+-- the three parts in which a byte may offend
+module _ (p : List ℕ) (k : ℕ) {r : Bool} where
+  pub offends-fixed : {x : ℕ} → x ≡ getD p k 0 → r ≡ fixedOffends k x → k < 48 → r ≡ offends p k
+  unfolding offends
+  offends-fixed ex er h = er ∙ rw ex (sym (pick-yes _ _ _ (lt-ltb k 48 h)))
+
+  pub offends-header : {x n h : ℕ} → x ≡ getD p k 0 → 48 ≤ k → n ≡ typesOn p → h ≡ headerPlace n → k < h
+      → r ≡ headerOffends p ((k - 48) / 4) ((k - 48) % 4) x → r ≡ offends p k
+  unfolding offends
+  offends-header ex l en eh m er =
+      er ∙ rw ex (sym (pick-no _ _ _ (le-ltb k 48 l) ∙ pick-yes _ _ _ (lt-ltb k (headerPlace (typesOn p)) (rw (eh, en) at m))))
+
+  pub offends-text : {x n h : ℕ} → x ≡ getD p k 0 → 48 ≤ k → n ≡ typesOn p → h ≡ headerPlace n → h ≤ k
+      → r ≡ textOffends x → r ≡ offends p k
+  unfolding offends
+  offends-text ex l en eh m er =
+      er ∙ rw ex (sym (pick-no _ _ _ (le-ltb k 48 l) ∙ pick-no _ _ _ (le-ltb k (headerPlace (typesOn p)) (rw (eh, en) at m))))
+
+-- the search ends where the page does
+pub found : (p : List ℕ) {n : ℕ} → length p ≡ n → firstBelow (offends p) n ≡ firstOffence p
+unfolding firstOffence
+found p e = rw e
+
+module _ (p : List ℕ) where
+  pub too-short : leb 4 (length p) ≡ false → Refused PageTooShort ≡ configurationRead p
+  unfolding configurationRead
+  too-short e = rw e
+
+  module _ (e1 : leb 4 (length p) ≡ true) where
+    pub other-code : eqb (getD p 0 0) 0x01 ≡ false → Refused PageCode ≡ configurationRead p
+    unfolding configurationRead
+    other-code e = rw (e1, e)
+
+    module _ (e2 : eqb (getD p 0 0) 0x01 ≡ true) where
+      pub other-length : lengthSaid p ≡ false → Refused PageLength ≡ configurationRead p
+      unfolding configurationRead
+      other-length e = rw (e1, e2, e)
+
+      module _ (e3 : lengthSaid p ≡ true) where
+        pub other-needed : eqb (length p) (neededLength p) ≡ false → Refused PageLength ≡ configurationRead p
+        unfolding configurationRead
+        other-needed e = rw (e1, e2, e3, e)
+
+        module _ (e4 : eqb (length p) (neededLength p) ≡ true) where
+          pub offended : eqb (firstOffence p) (length p) ≡ false → Refused NotAllowed ≡ configurationRead p
+          unfolding configurationRead
+          offended e = rw (e1, e2, e3, e4, e)
+
+          pub all-passed : eqb (firstOffence p) (length p) ≡ true → Accepted ≡ configurationRead p
+          unfolding configurationRead
+          all-passed e = rw (e1, e2, e3, e4, e)
+
+-- what reading leaves in a configuration's place
+pub told : (p c : List ℕ) {o : List ℕ} → length c ≡ elementPlace 0 → Accepted ≡ configurationRead p → o ≡ configurationPut p c
+    → (Accepted ≡ configurationRead p) × (o ≡ recordAfter Accepted (configurationOf p) c)
+told p c h e q =
+    (e, q ∙ told-whole p c h ∙ sym (append-nil (configurationOf p)) ∙ ap (λ (r : List ℕ). configurationOf p ++ r) (sym (drop-of-length-le c {i = length (configurationOf p)} (omega (arith, length-configuration p)))))

@@ -1,0 +1,57 @@
+-- The test of one entry, and the refusals of the writer one after the other. Assumes nothing.
+use mathlib.Core.Path.{_≡_, sym, ap}
+use mathlib.Core.Bool.{Bool, true, false, _&&_}
+use mathlib.Core.List.{List}
+use Prim.Native.Nat.{ℕ}
+use lib.ListN.{length}
+use Rattle.bits.proofs.Logic.{pick-yes, pick-no}
+use Rattle.shown.specs.declared.Shown.{Shown}
+use Rattle.shown.specs.Status.{showable, overallShowable}
+use Rattle.pages.specs.declared.slots.Slot.{Slot}
+use Rattle.pages.specs.Slots.{slotAt, slotsOf}
+use Rattle.status_record.specs.Entries.{entryAt, flagsFormed, entriesIn, bitsFormed}
+use Rattle.status_again.specs.Again.{entryFormed, entriesFormed, recordAsked, pageAgain}
+use lib.Dec.{eqb}
+use Rattle.refusals.specs.declared.Refusal.the-variants.{ShelfNotWellFormed, NotAllowed, WantedList}
+use Rattle.refusals.specs.declared.Written.{Written}
+use Rattle.refusals.specs.Outcomes.{fitted, writes}
+use Rattle.shelf.specs.Formed.{configurationFormed}
+use Rattle.refusals.specs.declared.Answer.the-variants as answer
+use Rattle.refusals.specs.declared.Written.the-variants as written
+use Rattle.pages.specs.Header as pages
+
+-- one entry's test
+module _ (c r : List ℕ) (i : ℕ) {at : Slot} {f t : Bool} {x : Shown} (q : at ≡ slotAt c i) (u : f ≡ flagsFormed r i) (h : x ≡ entryAt r i) where
+  pub formed-overall : at .overall ≡ true → t ≡ overallShowable x → f && t ≡ entryFormed c r i
+  unfolding entryFormed
+  formed-overall o e = rw (u, e, h) (ap (λ b. flagsFormed r i && b) (sym (pick-yes _ _ _ (rw q at o))))
+
+  pub formed-element : at .overall ≡ false → t ≡ showable (at .kind) x → f && t ≡ entryFormed c r i
+  unfolding entryFormed
+  formed-element o e = rw (u, e, h, q) (ap (λ b. flagsFormed r i && b) (sym (pick-no _ _ _ (rw q at o))))
+
+-- the writer from a record
+module _ (c r out : List ℕ) where
+  pub again-no-configuration : configurationFormed c ≡ false → written.Refused ShelfNotWellFormed ≡ writes (recordAsked c r) (pageAgain c r) out
+  unfolding recordAsked
+  again-no-configuration e = rw e
+
+  module _ (e : configurationFormed c ≡ true) {n : ℕ} (q : n ≡ slotsOf c) where
+    pub other-entries : eqb (entriesIn r) n ≡ false → written.Refused WantedList ≡ writes (recordAsked c r) (pageAgain c r) out
+    unfolding recordAsked
+    other-entries t = rw (e, ← q, t)
+
+    module _ (u : eqb (entriesIn r) n ≡ true) where
+      pub other-bits : bitsFormed r ≡ false → written.Refused NotAllowed ≡ writes (recordAsked c r) (pageAgain c r) out
+      unfolding recordAsked
+      other-bits t = rw (e, ← q, u, t)
+
+      module _ (v : bitsFormed r ≡ true) where
+        pub other-fields : entriesFormed c r n ≡ false → written.Refused NotAllowed ≡ writes (recordAsked c r) (pageAgain c r) out
+        unfolding recordAsked
+        other-fields t = rw (e, ← q, u, v, t)
+
+        pub again-writes : {w : Written} → entriesFormed c r n ≡ true → w ≡ fitted (length (pageAgain c r)) (length out)
+            → w ≡ writes (recordAsked c r) (pageAgain c r) out
+        unfolding recordAsked
+        again-writes t h = rw (e, ← q, u, v, t) h

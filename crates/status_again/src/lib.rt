@@ -1,0 +1,89 @@
+// The status page written again from the record that a reader handed back.
+use pages::header;
+use pages::slots;
+use refusals::Refusal;
+use refusals::Written;
+use shelf::opening;
+use shelf::opening::Opened;
+use status::page;
+ghost use mathlib.Core.Path.{_≡_};
+ghost use Rattle.refusals.specs.Outcomes.{writes, outAfter};
+ghost use Rattle.pages.specs.Slots.{slotsPut};
+ghost use Rattle.status.specs.Page.{slotRow};
+ghost use Rattle.status_record.specs.Entries.{entryAt};
+ghost use Rattle.status_again.specs.Again.{entryFormed, entriesFormed, recordAsked, pageAgain};
+
+// No field of entry i is out of range, or set where its slot shows none.
+fn entry_formed(configuration: &[u8], fields: &[u8], i: u16) -> bool
+    ensures { λ r. ⌜ r ≡ entryFormed (now (configuration .entry)) (now (fields .entry)) i ⌝ }
+{
+    let at = slots::slot_at(configuration, i);
+    let kind = at.kind;
+    let flags = status_record::flags_formed(fields, i);
+    let x = status_record::entry_at(fields, i);
+    if at.overall {
+        flags & x.is_code_alone()
+    } else {
+        flags & x.is_showable(kind)
+    }
+}
+
+fn entries_formed(configuration: &[u8], fields: &[u8], n: u16) -> bool
+    ensures { λ r. ⌜ r ≡ entriesFormed (now (configuration .entry)) (now (fields .entry)) n ⌝ }
+{
+    let mut i: u16 = 0;
+    while i < n {
+        if !entry_formed(configuration, fields, i) {
+            return false;
+        }
+        i += 1;
+    }
+    true
+}
+
+fn put_slots(configuration: &[u8], fields: &[u8], out: &mut [u8], n: u16)
+    ensures { λ _. ⌜ now (out .exit) ≡ slotsPut (slotRow (now (configuration .entry)) (entryAt (now (fields .entry)))) (now (out .entry)) n ⌝ }
+{
+    let mut i: u16 = 0;
+    while i < n {
+        let e = page::slot_bytes(
+            slots::slot_at(configuration, i),
+            status_record::entry_at(fields, i),
+        );
+        bits::put_four(out, slots::slot_place(i), e);
+        i += 1;
+    }
+}
+
+pub fn write(configuration: &[u8], fields: &[u8; status_record::LENGTH], out: &mut [u8]) -> Written
+    ensures { λ r. ⌜ r ≡ writes (recordAsked (now (configuration .entry)) (now (fields .entry))) (pageAgain (now (configuration .entry)) (now (fields .entry))) (now (out .entry)) ⌝ }
+    ensures { λ r. ⌜ now (out .exit) ≡ outAfter r (pageAgain (now (configuration .entry)) (now (fields .entry))) (now (out .entry)) ⌝ }
+{
+    let opened = opening::open_configuration(configuration);
+    let Opened::Shelf(sizes) = opened else {
+        return Written::Refused(Refusal::ShelfNotWellFormed);
+    };
+    let n = sizes.types + sizes.elements;
+    if status_record::count(fields) != n {
+        return Written::Refused(Refusal::WantedList);
+    }
+    if !status_record::bits_formed(fields) {
+        return Written::Refused(Refusal::NotAllowed);
+    }
+    if !entries_formed(configuration, fields, n) {
+        return Written::Refused(Refusal::NotAllowed);
+    }
+    let fit = Written::fit(slots::slot_place(n), out.len());
+    let Written::Bytes(_) = fit else {
+        return fit;
+    };
+    header::put(
+        configuration,
+        out,
+        page::CODE,
+        status_record::bits_at(fields).byte(),
+        n,
+    );
+    put_slots(configuration, fields, out, n);
+    fit
+}

@@ -1,0 +1,143 @@
+-- A Threshold In page that was accepted is written again as the same bytes. Assumes nothing.
+use mathlib.Core.Path.{_≡_, refl, sym, ap, ap₂, _∙_}
+use mathlib.Core.Bool.{true, false, not}
+use mathlib.Core.List.{List, [], _∷_, _++_, append-assoc}
+use Prim.Native.Nat.{ℕ, _+_, _*_, _<_, _≤_}
+use native.Mathlib.Omega.{arith}
+use lib.Dec.{eqb, ltb}
+use lib.ListN.{length, getD, drop, take-append-drop, length-drop}
+use lib.Seq.{getD-append-add, take-all}
+use borrow.Author.Tests.{eqb-true, eq-eqb, ltb-true, lt-ltb}
+use Rattle.bits.specs.Choice.{pick, firstBelow}
+use Rattle.bits.specs.Rows.{oneAt, bytesAt}
+use Rattle.bits.proofs.Logic.{pick-yes, fails, below-at, below-all, first-passes, first-fails}
+use Rattle.bits.proofs.Widths.{Bytes, big-bytes}
+use Rattle.bits.proofs.Rows.{joined-same, bytes-there, bytes-get}
+use Rattle.verdicts.specs.Thresholds.{had, ordered}
+use Rattle.refusals.specs.declared.Refusal.the-variants.{ShelfNotWellFormed, NotAllowed, NoSuchThreshold, ThresholdOrder}
+use Rattle.refusals.specs.declared.Answer.{Answer}
+use Rattle.refusals.specs.declared.Answer.the-variants.{Accepted}
+use Rattle.refusals.specs.Outcomes.{unless, next}
+use Rattle.refusals.proofs.Passed.{held, held-both}
+use Rattle.shelf.specs.Limits.{mostTypes, mostElements}
+use Rattle.shelf.specs.Formed.{configurationFormed}
+use Rattle.pages.specs.Slots.{slotsOf, slotAt}
+use Rattle.pages.specs.Header.{headed}
+use Rattle.pages.proofs.Bounds.{configuration-front, slots-bound}
+use Rattle.pages.proofs.HeadAgain.{length-tested, header-again}
+use Rattle.threshold_in.specs.Rows.{onPage, inRecord, rowPlace, rowAt, firstSet, rowOffending, rowRefused, offence, rowHad, allHad, rowOrdered, allOrdered, rowsAsked}
+use Rattle.threshold_in.specs.Read.{recordHead, thresholdRead, thresholdRecord}
+use Rattle.threshold_in.specs.Again.{entriesIn, recordAsked, pageAgain}
+use Rattle.threshold_in.proofs.Turned.{none-refused}
+use Rattle.threshold_in.proofs.Asked.{rows-passed}
+
+-- the rows are accepted just where each of them passes the three tests
+module _ (c b : List ℕ) (k : ℕ) where
+  abbrev pub Fine : ℕ → Type 0
+  Fine i = (rowRefused c b k i ≡ false) × (rowHad c b k i ≡ true) × (rowOrdered c b k i ≡ true)
+
+  module _ (n : ℕ) where
+    none-first : offence c b k n ≡ rowPlace k n → firstBelow (rowRefused c b k) n < n → ⊥
+    unfolding offence
+    none-first h l =
+        let i = firstBelow (rowRefused c b k) n in
+        let e : rowPlace k i + rowOffending c b k i ≡ rowPlace k n = sym (pick-yes _ _ _ (lt-ltb i n l)) ∙ h in
+        omega (arith, e, l, ltb-true (rowOffending c b k i) 4 (first-passes (rowRefused c b k) n l))
+
+    pub rows-fine : rowsAsked c b k n ≡ Accepted → (i : ℕ) → i < n → Fine i
+    unfolding rowsAsked allHad allOrdered
+    rows-fine a i l =
+        let r2 : Answer = unless (allOrdered c b k n) ThresholdOrder Accepted in
+        let r1 : Answer = unless (allHad c b k n) NoSuchThreshold r2 in
+        let h1 = held (eqb (offence c b k n) (rowPlace k n)) NotAllowed r1 a in
+        let h2 = held (allHad c b k n) NoSuchThreshold r2 (h1 .1) in
+        let h3 = held (allOrdered c b k n) ThresholdOrder Accepted (h2 .1) in
+        let z = none-first (eqb-true (offence c b k n) (rowPlace k n) (h1 .0)) in (
+          first-fails (rowRefused c b k) n i (omega (arith, l, z)),
+          below-at (rowHad c b k) n (h2 .0) i l,
+          below-at (rowOrdered c b k) n (h3 .0) i l,
+        )
+
+    pub fine-rows : ((i : ℕ) → i < n → Fine i) → rowsAsked c b k n ≡ Accepted
+    unfolding allHad allOrdered
+    fine-rows h =
+        sym
+        (rows-passed c b k n (none-refused c b k n (below-all (fails (rowRefused c b k)) n (λ i l. ap not (h i l .0))) refl) refl
+        (eq-eqb (rowPlace k n) (rowPlace k n) refl)
+        (below-all (rowHad c b k) n (λ i l. h i l .1))
+        (below-all (rowOrdered c b k) n (λ i l. h i l .2)))
+
+-- a row is asked by its bytes alone, wherever they stand
+pub fine-by : (c b d : List ℕ) (k m i : ℕ) → rowAt b k i ≡ rowAt d m i → Fine c d m i → Fine c b k i
+unfolding rowOffending rowHad rowOrdered
+fine-by c b d k m i e h = (
+  ap (λ (x : List ℕ). ltb (pick (slotAt c i .overall) (firstSet x) 4) 4) e ∙ h .0,
+  ap (had (slotAt c i .kind)) e ∙ h .1,
+  ap (ordered (slotAt c i .kind)) e ∙ h .2,
+)
+
+-- a record's entries are the page's slots, whatever stands behind them
+module _ (p rest : List ℕ) (n : ℕ) where
+  abbrev told : List ℕ
+  told = recordHead n ++ bytesAt p onPage (4 * n) ++ rest
+
+  get : (j : ℕ) → j < 4 * n → getD told (inRecord + j) 0 ≡ getD p (onPage + j) 0
+  get j l =
+      ap (λ (o : List ℕ). getD o (inRecord + j) 0) (append-assoc (recordHead n) (bytesAt p onPage (4 * n)) rest)
+      ∙ getD-append-add (recordHead n) (bytesAt p onPage (4 * n) ++ rest) j 0
+      ∙ bytes-get p onPage (4 * n) j rest l
+
+  count-back : n < 65536 → entriesIn told ≡ n
+  count-back l = big-bytes 2 n (omega arith)
+
+  row-back : (i : ℕ) → i < n → rowAt told inRecord i ≡ rowAt p onPage i
+  row-back i l = rw (get (4 * i) (omega arith), at 1 (omega arith), at 2 (omega arith), at 3 (omega arith))
+    where
+      at : (j : ℕ) → j < 4 → getD told (rowPlace inRecord i + j) 0 ≡ getD p (rowPlace onPage i + j) 0
+      at j b =
+          let x : rowPlace inRecord i + j ≡ inRecord + (4 * i + j) = omega arith in
+          let y : onPage + (4 * i + j) ≡ rowPlace onPage i + j = omega arith in
+          ap (λ (m : ℕ). getD told m 0) x ∙ get (4 * i + j) (omega arith) ∙ ap (λ (m : ℕ). getD p m 0) y
+
+  slots-back : bytesAt told inRecord (4 * n) ≡ bytesAt p onPage (4 * n)
+  unfolding bytesAt
+  slots-back = joined-same (oneAt told inRecord) (oneAt p onPage) (4 * n) (λ j l. ap (λ (x : ℕ). x ∷ []) (get j l))
+
+-- writing again what an accepted reading gave, whatever stands behind it
+module _ (c p rest : List ℕ) (a : thresholdRead c p ≡ Accepted) where
+  passed : (configurationFormed c ≡ true) × (headed c p 0x05 (slotsOf c) ≡ Accepted) × (getD p 1 0 ≡ 0) × (rowsAsked c p onPage (slotsOf c) ≡ Accepted)
+  unfolding thresholdRead
+  passed =
+      let r3 : Answer = rowsAsked c p onPage (slotsOf c) in
+      let r2 : Answer = unless (eqb (getD p 1 0) 0) NotAllowed r3 in
+      let r1 : Answer = next (headed c p 0x05 (slotsOf c)) r2 in
+      let h1 = held (configurationFormed c) ShelfNotWellFormed r1 a in
+      let h2 = held-both (headed c p 0x05 (slotsOf c)) r2 (h1 .1) in
+      let h3 = held (eqb (getD p 1 0) 0) NotAllowed r3 (h2 .1) in
+      (h1 .0, h2 .0, eqb-true (getD p 1 0) 0 (h3 .0), h3 .1)
+
+  few : slotsOf c ≤ mostTypes + mostElements
+  few = slots-bound c (configuration-front c (passed .0))
+
+  abbrev record-told : List ℕ
+  record-told = thresholdRecord c p ++ rest
+
+  entry-fine : (i : ℕ) → i < slotsOf c → Fine c record-told inRecord i
+  unfolding thresholdRecord
+  entry-fine i l = fine-by c record-told p inRecord onPage i (row-back p rest (slotsOf c) i l) (rows-fine c p onPage (slotsOf c) (passed .3) i l)
+
+  pub asked-again : recordAsked c record-told ≡ Accepted
+  unfolding recordAsked thresholdRecord
+  asked-again =
+      let n : entriesIn record-told ≡ slotsOf c = count-back p rest (slotsOf c) (omega (arith, few)) in
+      rw (passed .0, eq-eqb (entriesIn record-told) (slotsOf c) n) (fine-rows c record-told inRecord (slotsOf c) entry-fine)
+
+  pub page-again : Bytes c → Bytes p → pageAgain c record-told ≡ p
+  unfolding pageAgain thresholdRecord
+  page-again hc hp =
+      let n = slotsOf c in
+      let e = length-tested c p 0x05 n (passed .1) in
+      let l : length (drop 8 p) ≤ 4 * n = rw (length-drop 8 p) (omega (arith, e)) in
+      ap₂ _++_ (header-again c p 0x05 n (passed .1) 0 hc hp (sym (passed .2)))
+      (slots-back p rest n ∙ bytes-there p onPage (4 * n) (omega (arith, e)) ∙ take-all (4 * n) (drop 8 p) l)
+      ∙ take-append-drop 8 p

@@ -1,0 +1,4 @@
+pub mod Turned
+pub mod Asked
+pub mod Back
+pub mod Told

@@ -1,0 +1,165 @@
+-- The Threshold In page of a well-formed shelf is accepted under the shelf's configuration, and hands back the shelf's thresholds. Assumes nothing.
+use mathlib.Core.Path.{_≡_, refl, sym, ap, _∙_}
+use mathlib.Core.Bool.{true, false, _&&_}
+use mathlib.Core.List.{List, [], _∷_, _++_}
+use Prim.Native.Nat.{ℕ, _+_, _*_, _<_, _≤_}
+use native.Mathlib.Omega.{arith}
+use lib.Dec.{eqb, ltb}
+use lib.ListN.{length, getD, take}
+use lib.Seq.{drop-at, take-all}
+use Rattle.bits.specs.Choice.{pick, allBelow}
+use Rattle.bits.specs.Rows.{joined, bytesAt}
+use Rattle.bits.proofs.Logic.{by-case, pick-yes, pick-no, and-left, and-right, below-at}
+use Rattle.bits.proofs.Rows.{length-joined, bytes-there}
+use Rattle.kinds.specs.declared.types.Kind.{Kind}
+use Rattle.kinds.specs.declared.types.Kind.the-variants.{Cooling, Temperature, Voltage, Current}
+use Rattle.kinds.specs.Types.{readingAllowed, nominalAllowed}
+use Rattle.kinds.specs.Settings.{settingsFormed}
+use Rattle.verdicts.specs.Thresholds.{had, ordered}
+use Rattle.refusals.specs.declared.Answer.the-variants.{Accepted}
+use Rattle.shelf.specs.Limits.{mostTypes, mostElements, elementPlace}
+use Rattle.shelf.specs.Types.{elementsOf, kindAt}
+use Rattle.shelf.specs.Elements.{settingsAt, thresholdsAt, readingAt, nominalAt}
+use Rattle.shelf.specs.Formed.{elementFormed, elementsFormed, spareClear, frontFormed, wellFormed}
+use Rattle.shelf.proofs.Typed.{front-formed}
+use Rattle.shelf.proofs.Front.{front, configuration-of}
+use Rattle.pages.specs.declared.slots.Slot.{Slot}
+use Rattle.pages.specs.Slots.{slotsOf, slotAt}
+use Rattle.pages.specs.Header.{headed, header}
+use Rattle.pages.proofs.Bounds.{slots-bound}
+use Rattle.pages.proofs.Filled.{slot-read, length-header, length-page}
+use Rattle.pages.proofs.Fronted.{slots-same, header-same, slot-same, first-there, kind-first}
+use Rattle.pages.proofs.HeadAgain.{head-written}
+use Rattle.threshold_in.specs.Rows.{onPage, rowAt, firstSet, rowOffending, rowHad, rowOrdered}
+use Rattle.threshold_in.specs.Page.{thresholdRow, thresholdPage}
+use Rattle.threshold_in.specs.Read.{recordHead, thresholdRead, thresholdRecord}
+use Rattle.threshold_in.proofs.Asked.{row-length, slots-asked}
+use Rattle.threshold_in.proofs.Back.{Fine, fine-rows}
+
+abbrev fourZeros : List ℕ
+fourZeros = 0 ∷ 0 ∷ 0 ∷ 0 ∷ []
+
+-- four zeros pass every test
+zeros-clear : firstSet fourZeros ≡ 4
+unfolding firstSet
+zeros-clear = refl
+
+zeros-had : (k : Kind) → had k fourZeros ≡ true
+unfolding had
+zeros-had Cooling = refl
+zeros-had Temperature = refl
+zeros-had Voltage = refl
+zeros-had Current = refl
+
+zeros-ordered : (k : Kind) → ordered k fourZeros ≡ true
+unfolding ordered
+zeros-ordered Cooling = refl
+zeros-ordered Temperature = refl
+zeros-ordered Voltage = refl
+zeros-ordered Current = refl
+
+module _ (s : List ℕ) (w : wellFormed s ≡ true) where
+  f : frontFormed s ≡ true
+  f = front-formed s w
+
+  few : slotsOf s ≤ mostTypes + mostElements
+  few = slots-bound s f
+
+  -- the header passes its tests under the front's generation code
+  head-told : headed (front s) (thresholdPage s) 0x05 (slotsOf s) ≡ Accepted
+  unfolding thresholdPage
+  head-told =
+      rw (← (header-same s 0x05 0 (slotsOf s)))
+      (head-written (thresholdRow s) (row-length s) (front s) 0x05 0 (slotsOf s) (omega (arith, few)))
+
+  own : getD (thresholdPage s) 1 0 ≡ 0
+  unfolding thresholdPage header
+  own = refl
+
+  -- an element's thresholds are its type's
+  formed : (j : ℕ) → j < elementsOf s → (had (kindAt s j) (thresholdsAt s j) ≡ true) × (ordered (kindAt s j) (thresholdsAt s j) ≡ true)
+  unfolding wellFormed elementsFormed elementFormed
+  formed j l =
+      let k = kindAt s j in
+      let a = settingsFormed k (settingsAt s j) in
+      let b = had k (thresholdsAt s j) in
+      let c = ordered k (thresholdsAt s j) in
+      let d = readingAllowed k (readingAt s j) in
+      let e = nominalAllowed k (nominalAt s j) in
+      let n = elementsOf s in
+      let all = and-right (frontFormed s && eqb (length s) (elementPlace n)) (allBelow (elementFormed s) n) w in
+      let q = below-at (elementFormed s) n all j l in
+      let t = and-left ((a && b) && c) d (and-left (((a && b) && c) && d) e (and-left ((((a && b) && c) && d) && e) (spareClear s j) q)) in
+      (and-right a b (and-left (a && b) c t), and-right (a && b) c t)
+
+  module _ (i : ℕ) (l : i < slotsOf s) where
+    abbrev at : Slot
+    at = slotAt s i
+
+    row-overall : at .overall ≡ true → thresholdRow s i ≡ fourZeros
+    unfolding thresholdRow
+    row-overall o = pick-yes _ _ _ o
+
+    row-element : at .overall ≡ false → thresholdRow s i ≡ thresholdsAt s (at .first)
+    unfolding thresholdRow
+    row-element o = pick-no _ _ _ o
+
+    row-had : had (at .kind) (thresholdRow s i) ≡ true
+    row-had =
+        by-case (at .overall)
+        (λ o. ap (had (at .kind)) (row-overall o) ∙ zeros-had (at .kind))
+        (λ o. ap (had (at .kind)) (row-element o) ∙ ap (λ (k : Kind). had k (thresholdsAt s (at .first))) (sym (kind-first s f i l o))
+        ∙ formed (at .first) (first-there s f i l o) .0)
+
+    row-ordered : ordered (at .kind) (thresholdRow s i) ≡ true
+    row-ordered =
+        by-case (at .overall)
+        (λ o. ap (ordered (at .kind)) (row-overall o) ∙ zeros-ordered (at .kind))
+        (λ o. ap (ordered (at .kind)) (row-element o) ∙ ap (λ (k : Kind). ordered k (thresholdsAt s (at .first))) (sym (kind-first s f i l o))
+        ∙ formed (at .first) (first-there s f i l o) .1)
+
+    row-clear : pick (at .overall) (firstSet (thresholdRow s i)) 4 ≡ 4
+    row-clear =
+        by-case (at .overall)
+        (λ o. pick-yes _ _ _ o ∙ ap firstSet (row-overall o) ∙ zeros-clear)
+        (λ o. pick-no _ _ _ o)
+
+    -- the page has the slot's row where the slot stands
+    on-page : rowAt (thresholdPage s) onPage i ≡ thresholdRow s i
+    unfolding thresholdPage
+    on-page = slot-read (thresholdRow s) (row-length s) s 0x05 0 (slotsOf s) i l
+
+    fine : Fine (front s) (thresholdPage s) onPage i
+    unfolding rowOffending rowHad rowOrdered
+    fine =
+        let e = slot-same s f i l in (
+          ap (λ (z : Slot). ltb (pick (z .overall) (firstSet (rowAt (thresholdPage s) onPage i)) 4) 4) e
+              ∙ ap (λ (x : List ℕ). ltb (pick (at .overall) (firstSet x) 4) 4) on-page
+              ∙ ap (λ (n : ℕ). ltb n 4) row-clear,
+          ap (λ (z : Slot). had (z .kind) (rowAt (thresholdPage s) onPage i)) e ∙ ap (had (at .kind)) on-page ∙ row-had,
+          ap (λ (z : Slot). ordered (z .kind) (rowAt (thresholdPage s) onPage i)) e ∙ ap (ordered (at .kind)) on-page ∙ row-ordered,
+        )
+
+  -- it is accepted
+  pub told-read : thresholdRead (front s) (thresholdPage s) ≡ Accepted
+  told-read =
+      sym
+      (slots-asked (front s) (thresholdPage s) (configuration-of s w) (sym (slots-same s)) (sym head-told) refl
+      (ap (λ (b : ℕ). eqb b 0) own)
+      (sym (fine-rows (front s) (thresholdPage s) onPage (slotsOf s) fine)))
+
+  slots-told : bytesAt (thresholdPage s) onPage (4 * slotsOf s) ≡ joined (thresholdRow s) (slotsOf s)
+  unfolding thresholdPage
+  slots-told =
+      let n = slotsOf s in
+      let h = header s 0x05 0 n in
+      let g = joined (thresholdRow s) n in
+      let e = length-page (thresholdRow s) (row-length s) s 0x05 0 n in
+      bytes-there (h ++ g) onPage (4 * n) (omega (arith, e))
+      ∙ ap (take (4 * n)) (drop-at h g 8 (length-header s 0x05 0 n))
+      ∙ take-all (4 * n) g (omega (arith, length-joined (thresholdRow s) 4 (row-length s) n))
+
+  -- and hands back what the shelf has stored
+  pub told-record : thresholdRecord (front s) (thresholdPage s) ≡ recordHead (slotsOf s) ++ joined (thresholdRow s) (slotsOf s)
+  unfolding thresholdRecord
+  told-record = rw (slots-same s, slots-told)

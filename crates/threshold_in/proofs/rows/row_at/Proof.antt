@@ -1,0 +1,19 @@
+-- `threshold_in::rows::row_at` meets its contract. Assumes nothing.
+use mathlib.Core.Path.{ap, _∙_}
+use denote.Ref.{now}
+use Rattle.bits.specs.Places.{fourAt}
+use borrow.Author.Needs.{needs}
+use Rattle.threshold_in.proofs.rows.row_at.Statement.{statement}
+use Rattle.threshold_in.proofs.rows.row_at.Tie as tie
+
+row-place-requires : tie.Need-row-place-requires
+row-place-requires c κs = search needs
+
+four-at-requires : tie.Need-four-at-requires
+four-at-requires c κs = search needs
+
+returns : tie.Need-returns
+returns c = c .four-at .ensures ∙ ap (fourAt (now (c .before .before .before .args .block))) (c .before .row-place .ensures)
+
+pub row-at-spec : {M : Type 1} → statement M
+row-at-spec = tie.close (tie.spec row-place-requires four-at-requires returns)

@@ -1,0 +1,4 @@
+pub mod Rows
+pub mod Page
+pub mod Read
+pub mod Again

@@ -1,0 +1,66 @@
+-- Rows of four threshold bytes in a block b, from the place k on: the slots of a page, or the entries of a record. Assumes nothing.
+use mathlib.Core.Bool.{Bool, not}
+use mathlib.Core.List.{List}
+use Prim.Native.Nat.{ℕ, _+_, _*_}
+use lib.Dec.{eqb, ltb}
+use lib.ListN.{getD}
+use Rattle.bits.specs.Choice.{pick, allBelow, firstBelow}
+use Rattle.bits.specs.Places.{fourAt}
+use Rattle.verdicts.specs.Thresholds.{had, ordered}
+use Rattle.refusals.specs.declared.Refusal.the-variants.{NotAllowed, NoSuchThreshold, ThresholdOrder}
+use Rattle.refusals.specs.declared.Answer.{Answer}
+use Rattle.refusals.specs.declared.Answer.the-variants.{Accepted}
+use Rattle.refusals.specs.Outcomes.{unless}
+use Rattle.pages.specs.Slots.{slotAt}
+
+-- where the rows start
+abbrev pub onPage : ℕ
+onPage = 8
+
+abbrev pub inRecord : ℕ
+inRecord = 4
+
+abbrev pub rowPlace : ℕ → ℕ → ℕ
+rowPlace k i = k + 4 * i
+
+abbrev pub rowAt : List ℕ → ℕ → ℕ → List ℕ
+rowAt b k i = fourAt b (rowPlace k i)
+
+-- the first of four bytes that is not zero, 4 if none is
+abbrev pub isSet : List ℕ → ℕ → Bool
+isSet e j = not (eqb (getD e j 0) 0)
+
+unfoldable pub firstSet : List ℕ → ℕ
+firstSet e = firstBelow (isSet e) 4
+
+-- overall elements are zero: the first byte of row i that is refused, 4 if none is
+unfoldable pub rowOffending : List ℕ → List ℕ → ℕ → ℕ → ℕ
+rowOffending c b k i = pick (slotAt c i .overall) (firstSet (rowAt b k i)) 4
+
+abbrev pub rowRefused : List ℕ → List ℕ → ℕ → ℕ → Bool
+rowRefused c b k i = ltb (rowOffending c b k i) 4
+
+-- where the first refused byte of n rows stands, or where the rows end
+unfoldable pub offence : List ℕ → List ℕ → ℕ → ℕ → ℕ
+offence c b k n =
+    let i : ℕ = firstBelow (rowRefused c b k) n in
+    pick (ltb i n) (rowPlace k i + rowOffending c b k i) (rowPlace k n)
+
+unfoldable pub rowHad : List ℕ → List ℕ → ℕ → ℕ → Bool
+rowHad c b k i = had (slotAt c i .kind) (rowAt b k i)
+
+unfoldable pub allHad : List ℕ → List ℕ → ℕ → ℕ → Bool
+allHad c b k n = allBelow (rowHad c b k) n
+
+unfoldable pub rowOrdered : List ℕ → List ℕ → ℕ → ℕ → Bool
+rowOrdered c b k i = ordered (slotAt c i .kind) (rowAt b k i)
+
+unfoldable pub allOrdered : List ℕ → List ℕ → ℕ → ℕ → Bool
+allOrdered c b k n = allBelow (rowOrdered c b k) n
+
+-- 6: a byte of an overall row; 7: a byte that the row's type doesn't have; 8: the order. Each is asked of all rows before the next
+unfoldable pub rowsAsked : List ℕ → List ℕ → ℕ → ℕ → Answer
+rowsAsked c b k n =
+    unless (eqb (offence c b k n) (rowPlace k n)) NotAllowed
+    (unless (allHad c b k n) NoSuchThreshold
+    (unless (allOrdered c b k n) ThresholdOrder Accepted))

@@ -1,0 +1,45 @@
+// The page written again from the record that a reader handed back.
+use crate::page;
+use crate::reading;
+use crate::rows;
+use pages::header;
+use pages::slots;
+use refusals::Answer;
+use refusals::Refusal;
+use refusals::Written;
+use shelf::opening;
+use shelf::opening::Opened;
+ghost use mathlib.Core.Path.{_≡_};
+ghost use Rattle.refusals.specs.Outcomes.{writes, outAfter};
+ghost use Rattle.threshold_in.specs.Again.{recordAsked, pageAgain};
+
+pub fn write(configuration: &[u8], fields: &[u8; reading::LENGTH], out: &mut [u8]) -> Written
+    ensures { λ r. ⌜ r ≡ writes (recordAsked (now (configuration .entry)) (now (fields .entry))) (pageAgain (now (configuration .entry)) (now (fields .entry))) (now (out .entry)) ⌝ }
+    ensures { λ r. ⌜ now (out .exit) ≡ outAfter r (pageAgain (now (configuration .entry)) (now (fields .entry))) (now (out .entry)) ⌝ }
+{
+    let opened = opening::open_configuration(configuration);
+    let Opened::Shelf(sizes) = opened else {
+        return Written::Refused(Refusal::ShelfNotWellFormed);
+    };
+    let n = sizes.types + sizes.elements;
+    if bits::big16_at(fields, 2) != n {
+        return Written::Refused(Refusal::WantedList);
+    }
+    let tested = rows::test(configuration, fields, rows::IN_RECORD, n);
+    if let Answer::Refused(refusal) = tested {
+        return Written::Refused(refusal);
+    }
+    let fit = Written::fit(slots::slot_place(n), out.len());
+    let Written::Bytes(_) = fit else {
+        return fit;
+    };
+    header::put(configuration, out, page::CODE, 0, n);
+    bits::copy(
+        fields,
+        rows::IN_RECORD as u32,
+        out,
+        rows::ON_PAGE as u32,
+        4 * n as u32,
+    );
+    fit
+}

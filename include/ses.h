@@ -54,8 +54,70 @@ static inline const char *ses_meaning(uint8_t number)
     }
 }
 
+/* The front of a shelf block, without its elements: what a configuration page tells. */
+#define SES_CONFIGURATION_LENGTH 332
+
+/* For each type one overall element, and all individual elements. */
+#define SES_MOST_ENTRIES 72
+
+/* One status element, field by field. Flags are 0 or 1; the reading has its high byte first. An overall
+ * element shows its code alone. */
+struct ses_shown {
+    uint8_t code, prdfail, disabled, swap;
+    uint8_t ident, fail, on, off;
+    uint8_t speed, spare, reading[2];
+    uint8_t high_critical, high_warning, low_warning, low_critical;
+};
+
+/* A status page. The entries stand as on the page: for each type its overall element, then its elements.
+ * Their number has its high byte first. */
+struct ses_status {
+    uint8_t noncritical, critical;
+    uint8_t entries[2];
+    struct ses_shown entry[SES_MOST_ENTRIES];
+};
+
+/* A threshold status page, its entries in the same order. Each is high critical, high warning, low
+ * warning, low critical; overall ones are zero. */
+struct ses_thresholds {
+    uint8_t spare[2];
+    uint8_t entries[2];
+    uint8_t entry[SES_MOST_ENTRIES][4];
+};
+
 /* Is the block a well-formed shelf?  0, or 1 (SES_SHELF_NOT_WELL_FORMED). */
 uint8_t ses_check(const uint8_t *shelf, size_t shelf_length);
+
+/* Write a page of the shelf: configuration (01h), status (02h), threshold status (05h).
+ * Refusals 1, 11. `written` gets the bytes written, 0 if refused; output after the page is kept. */
+uint8_t ses_write_configuration(const uint8_t *shelf, size_t shelf_length,
+                                uint8_t *out, size_t out_length, uint32_t *written);
+uint8_t ses_write_status(const uint8_t *shelf, size_t shelf_length,
+                         uint8_t *out, size_t out_length, uint32_t *written);
+uint8_t ses_write_thresholds(const uint8_t *shelf, size_t shelf_length,
+                             uint8_t *out, size_t out_length, uint32_t *written);
+
+/* Read a configuration page.  Refusals 2, 3, 4, 6. */
+uint8_t ses_read_configuration(const uint8_t *page, size_t page_length,
+                               uint8_t configuration[SES_CONFIGURATION_LENGTH]);
+
+/* Read a status page or a threshold status page, whose type list and generation code are those of a
+ * configuration.  Refusals 1 to 6, for thresholds 1 to 8. A record's bytes after its last entry are kept. */
+uint8_t ses_read_status(const uint8_t *configuration, size_t configuration_length,
+                        const uint8_t *page, size_t page_length, struct ses_status *record);
+uint8_t ses_read_thresholds(const uint8_t *configuration, size_t configuration_length,
+                            const uint8_t *page, size_t page_length, struct ses_thresholds *record);
+
+/* Write again what a reader handed back.  Refusals 1, 11; for status 1, 9, 6, 11; for thresholds 1, 9, 6,
+ * 7, 8, 11, each in this order. What a record holds after its last entry, and `spare`, is not looked at. */
+uint8_t ses_rewrite_configuration(const uint8_t *configuration, size_t configuration_length,
+                                  uint8_t *out, size_t out_length, uint32_t *written);
+uint8_t ses_rewrite_status(const uint8_t *configuration, size_t configuration_length,
+                           const struct ses_status *record,
+                           uint8_t *out, size_t out_length, uint32_t *written);
+uint8_t ses_rewrite_thresholds(const uint8_t *configuration, size_t configuration_length,
+                               const struct ses_thresholds *record,
+                               uint8_t *out, size_t out_length, uint32_t *written);
 
 #ifdef __cplusplus
 }

@@ -1,37 +1,75 @@
 /* The library behind a pipe, so that a program of any language and processor can ask it.
  *
  * A request is one byte that names the call, then its buffers, each a length of four bytes (the highest
- * first) and as many bytes. The answer is the call's own byte and then the buffer that it may change.
+ * first) and as many bytes. The answer is the call's own byte, for a call that writes a page the four
+ * bytes of `written`, and then the buffer that it may change.
  *
- *   c shelf                   ses_check
- *   k shelf overall own       trial_control, and the shelf
- *   t shelf overall own       trial_thresholds, and the shelf
- *   s shelf                   trial_status, and four bytes
- *   .                         all answers are sent
+ *   c shelf                        ses_check
+ *   k shelf overall own            trial_control, and the shelf
+ *   t shelf overall own            trial_thresholds, and the shelf
+ *   A shelf out                    ses_write_configuration, written, and out
+ *   B shelf out                    ses_write_status, written, and out
+ *   C shelf out                    ses_write_thresholds, written, and out
+ *   D page record                  ses_read_configuration, and the record
+ *   E configuration page record    ses_read_status, and the record
+ *   F configuration page record    ses_read_thresholds, and the record
+ *   G configuration out            ses_rewrite_configuration, written, and out
+ *   H configuration record out     ses_rewrite_status, written, and out
+ *   I configuration record out     ses_rewrite_thresholds, written, and out
+ *   .                              all answers are sent
  */
 #include "ses.h"
 
 #include <stdio.h>
 #include <stdlib.h>
+#include <string.h>
+
+_Static_assert(sizeof(struct ses_status) == 1156, "a status record has no gaps");
+_Static_assert(sizeof(struct ses_thresholds) == 292, "a threshold record has no gaps");
 
 uint8_t trial_control(uint8_t *shelf, size_t shelf_length, const uint8_t *overall, size_t overall_length,
                       const uint8_t *own, size_t own_length);
 uint8_t trial_thresholds(uint8_t *shelf, size_t shelf_length, const uint8_t *overall, size_t overall_length,
                          const uint8_t *own, size_t own_length);
-uint8_t trial_status(const uint8_t *shelf, size_t shelf_length, uint8_t *out, size_t out_length);
 
+#define GUARD_LENGTH 64
+#define GUARD_BYTE 0x5A
+#define NOT_WRITTEN 0xA5C3960FU
+
+/* `bytes` stand in memory of their own between two guards. */
 struct buffer {
-    uint8_t *bytes;
+    uint8_t *memory, *bytes, *copy;
     size_t length;
     size_t room;
 };
 
-static struct buffer shelf, overall, own;
+static struct buffer shelf, overall, own, first, second, lent;
+static uint32_t written;
 
 static void fail(const char *why)
 {
     fprintf(stderr, "door: %s\n", why);
     exit(1);
+}
+
+static uint8_t *allocate(size_t length)
+{
+    uint8_t *memory = malloc(length);
+    if (memory == NULL)
+        fail("no memory");
+    return memory;
+}
+
+static void make_room(struct buffer *b)
+{
+    if (b->memory != NULL && b->room >= b->length)
+        return;
+    free(b->memory);
+    free(b->copy);
+    b->room = b->length;
+    b->memory = allocate(b->room + 2 * GUARD_LENGTH);
+    b->bytes = b->memory + GUARD_LENGTH;
+    b->copy = allocate(b->room + 1);
 }
 
 static void take(struct buffer *b)
@@ -40,15 +78,51 @@ static void take(struct buffer *b)
     if (fread(head, 1, 4, stdin) != 4)
         fail("a length is cut off");
     b->length = (size_t)head[0] << 24 | (size_t)head[1] << 16 | (size_t)head[2] << 8 | head[3];
-    if (b->room < b->length + 1) {
-        free(b->bytes);
-        b->room = b->length + 1;
-        b->bytes = malloc(b->room);
-        if (b->bytes == NULL)
-            fail("no memory");
-    }
+    make_room(b);
     if (fread(b->bytes, 1, b->length, stdin) != b->length)
         fail("a buffer is cut off");
+    memset(b->memory, GUARD_BYTE, GUARD_LENGTH);
+    memset(b->bytes + b->length, GUARD_BYTE, GUARD_LENGTH);
+}
+
+/* A buffer that the call may only look at. */
+static void take_input(struct buffer *b)
+{
+    take(b);
+    memcpy(b->copy, b->bytes, b->length);
+}
+
+static void take_record(struct buffer *b, size_t length)
+{
+    take_input(b);
+    if (b->length != length)
+        fail("a record of another length");
+}
+
+static void check_guards(const struct buffer *b)
+{
+    for (size_t i = 0; i < GUARD_LENGTH; i++)
+        if (b->memory[i] != GUARD_BYTE || b->bytes[b->length + i] != GUARD_BYTE)
+            fail("the library wrote beside a buffer");
+}
+
+static void check_input(const struct buffer *b)
+{
+    check_guards(b);
+    if (memcmp(b->copy, b->bytes, b->length) != 0)
+        fail("the library changed what it may only look at");
+}
+
+static void send_lent(void)
+{
+    check_guards(&lent);
+    fwrite(lent.bytes, 1, lent.length, stdout);
+}
+
+static void send_written(void)
+{
+    for (int shift = 24; shift >= 0; shift -= 8)
+        putchar(written >> shift & 0xFF);
 }
 
 static void answer_on_shelf(uint8_t (*call)(uint8_t *, size_t, const uint8_t *, size_t, const uint8_t *, size_t))
@@ -60,12 +134,76 @@ static void answer_on_shelf(uint8_t (*call)(uint8_t *, size_t, const uint8_t *, 
     fwrite(shelf.bytes, 1, shelf.length, stdout);
 }
 
-static void answer_status(void)
+static void answer_write(uint8_t (*call)(const uint8_t *, size_t, uint8_t *, size_t, uint32_t *))
 {
-    uint8_t out[4] = {0};
-    take(&shelf);
-    putchar(trial_status(shelf.bytes, shelf.length, out, sizeof out));
-    fwrite(out, 1, sizeof out, stdout);
+    take_input(&first);
+    take(&lent);
+    written = NOT_WRITTEN;
+    putchar(call(first.bytes, first.length, lent.bytes, lent.length, &written));
+    check_input(&first);
+    send_written();
+    send_lent();
+}
+
+static void answer_read_configuration(void)
+{
+    take_input(&first);
+    take_record(&lent, SES_CONFIGURATION_LENGTH);
+    putchar(ses_read_configuration(first.bytes, first.length, lent.bytes));
+    check_input(&first);
+    send_lent();
+}
+
+static void answer_read_status(void)
+{
+    take_input(&first);
+    take_input(&second);
+    take_record(&lent, sizeof(struct ses_status));
+    putchar(ses_read_status(first.bytes, first.length, second.bytes, second.length,
+                            (struct ses_status *)lent.bytes));
+    check_input(&first);
+    check_input(&second);
+    send_lent();
+}
+
+static void answer_read_thresholds(void)
+{
+    take_input(&first);
+    take_input(&second);
+    take_record(&lent, sizeof(struct ses_thresholds));
+    putchar(ses_read_thresholds(first.bytes, first.length, second.bytes, second.length,
+                                (struct ses_thresholds *)lent.bytes));
+    check_input(&first);
+    check_input(&second);
+    send_lent();
+}
+
+static void answer_rewrite_status(void)
+{
+    take_input(&first);
+    take_record(&second, sizeof(struct ses_status));
+    take(&lent);
+    written = NOT_WRITTEN;
+    putchar(ses_rewrite_status(first.bytes, first.length, (const struct ses_status *)second.bytes,
+                               lent.bytes, lent.length, &written));
+    check_input(&first);
+    check_input(&second);
+    send_written();
+    send_lent();
+}
+
+static void answer_rewrite_thresholds(void)
+{
+    take_input(&first);
+    take_record(&second, sizeof(struct ses_thresholds));
+    take(&lent);
+    written = NOT_WRITTEN;
+    putchar(ses_rewrite_thresholds(first.bytes, first.length, (const struct ses_thresholds *)second.bytes,
+                                   lent.bytes, lent.length, &written));
+    check_input(&first);
+    check_input(&second);
+    send_written();
+    send_lent();
 }
 
 int main(void)
@@ -83,8 +221,32 @@ int main(void)
         case 't':
             answer_on_shelf(trial_thresholds);
             break;
-        case 's':
-            answer_status();
+        case 'A':
+            answer_write(ses_write_configuration);
+            break;
+        case 'B':
+            answer_write(ses_write_status);
+            break;
+        case 'C':
+            answer_write(ses_write_thresholds);
+            break;
+        case 'D':
+            answer_read_configuration();
+            break;
+        case 'E':
+            answer_read_status();
+            break;
+        case 'F':
+            answer_read_thresholds();
+            break;
+        case 'G':
+            answer_write(ses_rewrite_configuration);
+            break;
+        case 'H':
+            answer_rewrite_status();
+            break;
+        case 'I':
+            answer_rewrite_thresholds();
             break;
         case '.':
             fflush(stdout);

@@ -121,8 +121,7 @@ fn plain_fills(rng: &mut Rng, offer: Offer) {
         for fill in [0x00, 0xFF, 0x01, 0x20] {
             offer(&vec![fill; length], Intent::Malformed);
         }
-        let noise: Vec<u8> = (0..length).map(|_| rng.byte()).collect();
-        offer(&noise, Intent::Malformed);
+        offer(&rng.bytes(length), Intent::Malformed);
     }
 }
 
@@ -171,15 +170,19 @@ const ELEMENT_FLAWS: [(Kind, ElementFlaw); 14] = [
 fn element_flaws(rng: &mut Rng, offer: Offer) {
     for (kind, flaw) in ELEMENT_FLAWS {
         for _ in 0..2_000 {
-            let count = rng.range(1, 8);
-            let mut flawed = group(rng, kind, count);
-            let which = rng.range(0, count - 1);
-            flaw(&mut flawed.elements[which], rng);
-            let others = rng.range(0, 7);
-            let (groups, _) = surround(rng, flawed, others);
-            offer(&shelf_of(rng, groups).block(), Intent::Malformed);
+            offer(&with_element_flaw(rng, kind, flaw), Intent::Malformed);
         }
     }
+}
+
+fn with_element_flaw(rng: &mut Rng, kind: Kind, flaw: ElementFlaw) -> Vec<u8> {
+    let count = rng.range(1, 8);
+    let mut flawed = group(rng, kind, count);
+    let which = rng.range(0, count - 1);
+    flaw(&mut flawed.elements[which], rng);
+    let others = rng.range(0, 7);
+    let (groups, _) = surround(rng, flawed, others);
+    shelf_of(rng, groups).block()
 }
 
 fn no_speed(element: &mut Element, _: &mut Rng) {
@@ -292,9 +295,43 @@ const BLOCK_FLAWS: [BlockFlaw; 11] = [
 fn block_flaws(rng: &mut Rng, offer: Offer) {
     for flaw in BLOCK_FLAWS {
         for _ in 0..3_000 {
-            let mut target = target(rng);
-            flaw(&mut target, rng);
-            offer(&target.block, Intent::Malformed);
+            offer(&with_block_flaw(rng, flaw), Intent::Malformed);
+        }
+    }
+}
+
+fn with_block_flaw(rng: &mut Rng, flaw: BlockFlaw) -> Vec<u8> {
+    let mut target = target(rng);
+    flaw(&mut target, rng);
+    target.block
+}
+
+/// A block that is not well formed, for one reason or another.
+pub fn malformed_block(rng: &mut Rng) -> Vec<u8> {
+    match rng.range(0, 4) {
+        0 => {
+            let block = shelf(rng).block();
+            let length = rng.range(0, block.len() - 1);
+            block[..length].to_vec()
+        }
+        1 => {
+            let surplus = rng.range(1, 2 * ELEMENT_BYTES);
+            [shelf(rng).block(), rng.bytes(surplus)].concat()
+        }
+        2 => {
+            let (kind, flaw) = rng.pick(&ELEMENT_FLAWS);
+            with_element_flaw(rng, kind, flaw)
+        }
+        3 => {
+            let any = rng.range(65, 512);
+            let elements = rng.pick(&[65, 66, 256, 257, 512, any]);
+            let types = rng.range((elements + 63) / 64, 8);
+            let groups = too_many(rng, types, elements);
+            shelf_of(rng, groups).block()
+        }
+        _ => {
+            let flaw = rng.pick(&BLOCK_FLAWS);
+            with_block_flaw(rng, flaw)
         }
     }
 }
@@ -451,7 +488,7 @@ fn sparse_element(target: &mut Target, rng: &mut Rng) {
     }
 }
 
-fn shelf(rng: &mut Rng) -> Shelf {
+pub fn shelf(rng: &mut Rng) -> Shelf {
     let types = rng.range(1, 8);
     let elements = if rng.one_in(6) { 64 } else { rng.range(0, 64) };
     let groups = groups(rng, types, elements);
@@ -482,7 +519,7 @@ fn surround(rng: &mut Rng, group: Group, others: usize) -> (Vec<Group>, usize) {
 }
 
 /// Random shares, so that a type often has none or nearly all of the elements.
-fn groups(rng: &mut Rng, types: usize, elements: usize) -> Vec<Group> {
+pub fn groups(rng: &mut Rng, types: usize, elements: usize) -> Vec<Group> {
     let mut counts = vec![0; types];
     let mut left = elements;
     while left > 0 {
@@ -509,7 +546,7 @@ fn too_many(rng: &mut Rng, types: usize, elements: usize) -> Vec<Group> {
     groups
 }
 
-fn group(rng: &mut Rng, kind: Kind, count: usize) -> Group {
+pub fn group(rng: &mut Rng, kind: Kind, count: usize) -> Group {
     let length = near(rng, &[0, 1, 31, 32], 0, 32);
     Group {
         kind,
@@ -518,7 +555,7 @@ fn group(rng: &mut Rng, kind: Kind, count: usize) -> Group {
     }
 }
 
-fn text(rng: &mut Rng, length: usize) -> Vec<u8> {
+pub fn text(rng: &mut Rng, length: usize) -> Vec<u8> {
     (0..length)
         .map(|_| near(rng, &[0x20, 0x7E], 0x20, 0x7E) as u8)
         .collect()

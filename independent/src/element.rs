@@ -2,6 +2,7 @@
 
 use crate::bits::{bit, flag};
 use crate::record::{Element, FanSettings, Kind, Settings, Thresholds};
+use crate::shown::Shown;
 
 /// A selected control element has a reserved bit set: refusal 6.
 #[derive(Clone, Copy, Debug, PartialEq, Eq)]
@@ -179,6 +180,15 @@ impl Thresholds {
         }
     }
 
+    /// None is set that the type does not have.
+    pub fn had_by(&self, kind: Kind) -> bool {
+        match kind {
+            Kind::Cooling => *self == Thresholds::default(),
+            Kind::Temperature | Kind::Voltage => true,
+            Kind::Current => self.low_warning == 0 && self.low_critical == 0,
+        }
+    }
+
     pub fn keep_order(&self, kind: Kind) -> bool {
         let at_least = |above: u8, below: u8| above == 0 || below == 0 || above >= below;
         let high = at_least(self.high_critical, self.high_warning);
@@ -215,7 +225,7 @@ pub struct Verdict {
 }
 
 impl Code {
-    fn number(self) -> u8 {
+    pub fn number(self) -> u8 {
         match self {
             Code::Normal => 1,
             Code::Critical => 2,
@@ -264,23 +274,53 @@ impl Element {
         }
     }
 
-    /// The four bytes that show this element on the status page.
-    pub fn status(&self) -> [u8; 4] {
+    /// What the status page shows of this element.
+    pub fn shown(&self) -> Shown {
         let Verdict { code, limits } = self.verdict();
+        let code = code.number();
         match *self {
             Element::Cooling {
                 settings, reading, ..
-            } => fan_status(settings, reading, code),
+            } => Shown::Cooling {
+                code,
+                settings: settings.common,
+                on: settings.on,
+                off: !settings.on,
+                speed: settings.speed,
+                reading,
+            },
             Element::Temperature {
                 settings, reading, ..
-            } => temperature_status(settings, reading, code, limits),
+            } => {
+                let [_, reading] = reading.to_be_bytes();
+                Shown::Temperature {
+                    code,
+                    settings,
+                    reading,
+                    limits,
+                }
+            }
             Element::Voltage {
                 settings, reading, ..
-            }
-            | Element::Current {
+            } => Shown::Voltage {
+                code,
+                settings,
+                reading,
+                limits,
+            },
+            Element::Current {
                 settings, reading, ..
-            } => electric_status(settings, reading, code, limits),
+            } => Shown::Current {
+                code,
+                settings,
+                reading,
+                limits,
+            },
         }
+    }
+
+    pub fn status(&self) -> [u8; 4] {
+        self.shown().element()
     }
 }
 
@@ -340,46 +380,4 @@ fn trips_high(limit: u8, v: i64, n: i64) -> bool {
 
 fn trips_low(limit: u8, v: i64, n: i64) -> bool {
     limit != 0 && 200 * (n - v) > n * i64::from(limit)
-}
-
-fn status_byte0(settings: Settings, code: Code) -> u8 {
-    flag(settings.prdfail, 6) + flag(settings.disabled, 5) + flag(settings.swap, 4) + code.number()
-}
-
-fn fan_status(settings: FanSettings, reading: u16, code: Code) -> [u8; 4] {
-    let [upper, lower] = reading.to_be_bytes();
-    [
-        status_byte0(settings.common, code),
-        flag(settings.common.ident, 7) + upper,
-        lower,
-        flag(settings.common.fail, 6)
-            + flag(settings.on, 5)
-            + flag(!settings.on, 4)
-            + settings.speed,
-    ]
-}
-
-fn temperature_status(settings: Settings, reading: u16, code: Code, limits: Limits) -> [u8; 4] {
-    let [_, reading] = reading.to_be_bytes();
-    [
-        status_byte0(settings, code),
-        flag(settings.ident, 7) + flag(settings.fail, 6),
-        reading,
-        flag(limits.critical_over, 3)
-            + flag(limits.warning_over, 2)
-            + flag(limits.critical_under, 1)
-            + flag(limits.warning_under, 0),
-    ]
-}
-
-/// Voltage and current: a current never trips a low limit, so its UNDER bits stay 0.
-fn electric_status(settings: Settings, reading: i16, code: Code, limits: Limits) -> [u8; 4] {
-    let byte1 = flag(settings.ident, 7)
-        + flag(settings.fail, 6)
-        + flag(limits.warning_over, 3)
-        + flag(limits.warning_under, 2)
-        + flag(limits.critical_over, 1)
-        + flag(limits.critical_under, 0);
-    let [upper, lower] = reading.to_be_bytes();
-    [status_byte0(settings, code), byte1, upper, lower]
 }

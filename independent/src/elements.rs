@@ -1,4 +1,4 @@
-//! Compares the rules of one element with the library's: control, thresholds and status.
+//! Compares the rules of one element with the library's: control and thresholds.
 
 use crate::cases::{element, shelf_of, thresholds_of};
 use crate::element::ReservedBit;
@@ -14,7 +14,7 @@ const ROUNDS: usize = 600;
 const ASKED_AT_ONCE: usize = 100;
 const LEAST_OF_EACH: usize = 1_000;
 
-/// What is asked, what the answer must be, and what is counted of it: the refusal number, or the status code.
+/// What is asked, what the answer must be, and its refusal number.
 struct Trial {
     request: Vec<u8>,
     expected: Vec<u8>,
@@ -27,7 +27,7 @@ struct Comparison {
     outcomes: &'static [u8],
 }
 
-const COMPARISONS: [Comparison; 3] = [
+const COMPARISONS: [Comparison; 2] = [
     Comparison {
         name: "control",
         make: control,
@@ -37,11 +37,6 @@ const COMPARISONS: [Comparison; 3] = [
         name: "thresholds",
         make: thresholds,
         outcomes: &[0, 7, 8],
-    },
-    Comparison {
-        name: "status",
-        make: status,
-        outcomes: &[1, 2, 3, 6],
     },
 ];
 
@@ -156,7 +151,7 @@ fn thresholds(rng: &mut Rng, kind: Kind) -> Trial {
     let request = request(b't', &[&shelf.block(), &overall, &own]);
     let (overall, own) = (Thresholds::from_bytes(overall), Thresholds::from_bytes(own));
     let after = element.thresholds().joined(overall, own);
-    if !has(kind, overall) || !has(kind, own) {
+    if !overall.had_by(kind) || !own.had_by(kind) {
         answered(request, 7, &shelf)
     } else if !after.keep_order(kind) {
         answered(request, 8, &shelf)
@@ -172,56 +167,4 @@ fn threshold_bytes(rng: &mut Rng) -> [u8; 4] {
         return [0; 4];
     }
     from_fn(|_| if rng.one_in(2) { 0 } else { rng.byte() })
-}
-
-fn has(kind: Kind, thresholds: Thresholds) -> bool {
-    match kind {
-        Kind::Cooling => thresholds == Thresholds::default(),
-        Kind::Temperature | Kind::Voltage => true,
-        Kind::Current => thresholds.low_warning == 0 && thresholds.low_critical == 0,
-    }
-}
-
-fn status(rng: &mut Rng, kind: Kind) -> Trial {
-    let mut element = element(rng, kind);
-    if !rng.one_in(4) {
-        bring_near_a_limit(rng, &mut element);
-    }
-    let block = shelf_with(rng, element).block();
-    let [byte0, byte1, byte2, byte3] = element.status();
-    Trial {
-        request: request(b's', &[&block]),
-        expected: vec![0, byte0, byte1, byte2, byte3],
-        outcome: byte0 % 16,
-    }
-}
-
-/// Moves a sensor's reading to one of its limits, or a step or two off.
-fn bring_near_a_limit(rng: &mut Rng, element: &mut Element) {
-    let t = element.thresholds();
-    let off = rng.pick(&[-1, 0, 1, 2]);
-    match element {
-        Element::Cooling { .. } => {}
-        Element::Temperature { reading, .. } => {
-            let limits = [
-                t.high_critical,
-                t.high_warning,
-                t.low_warning,
-                t.low_critical,
-            ];
-            *reading = (i64::from(rng.pick(&limits)) + off).clamp(0, 255) as u16;
-        }
-        Element::Voltage {
-            reading, nominal, ..
-        }
-        | Element::Current {
-            reading, nominal, ..
-        } => {
-            let n = i64::from(*nominal);
-            let high = n + n * i64::from(rng.pick(&[t.high_critical, t.high_warning])) / 200;
-            let low = n - n * i64::from(rng.pick(&[t.low_warning, t.low_critical])) / 200;
-            let limit = rng.pick(&[high, low]);
-            *reading = (limit + off).clamp(i16::MIN.into(), i16::MAX.into()) as i16;
-        }
-    }
 }

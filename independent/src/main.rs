@@ -5,10 +5,12 @@ mod cases;
 mod element;
 mod elements;
 mod library;
+mod pages;
 mod record;
 mod rng;
 mod selftest;
 mod shelves;
+mod shown;
 
 use std::io::{stdout, Write};
 use std::process::ExitCode;
@@ -20,9 +22,12 @@ fn main() -> ExitCode {
         ["selftest"] => selftest::run(),
         ["shelf-a"] => stdout().write_all(&selftest::block_a()).is_ok(),
         ["elements", library @ ..] if !library.is_empty() => elements::run(library),
+        ["pages", library @ ..] if !library.is_empty() => pages::compare::run(library),
         ["shelves", library @ ..] if !library.is_empty() => shelves::run(library),
         _ => {
-            eprintln!("usage: independent selftest | shelf-a | (elements | shelves) PROGRAM [ARGUMENT]...");
+            eprintln!(
+                "usage: independent selftest | shelf-a | (elements | pages | shelves) PROGRAM [ARGUMENT]..."
+            );
             return ExitCode::from(2);
         }
     };

@@ -30,6 +30,22 @@ pub struct Group {
     pub elements: Vec<Element>,
 }
 
+/// A shelf but for what its elements hold: all that a configuration page tells.
+#[derive(Clone, Debug, PartialEq, Eq)]
+pub struct Configuration {
+    pub generation: u32,
+    pub identification: Identification,
+    pub types: Vec<Type>,
+}
+
+/// One entry of the type list.
+#[derive(Clone, Debug, PartialEq, Eq)]
+pub struct Type {
+    pub kind: Kind,
+    pub count: usize,
+    pub text: Vec<u8>,
+}
+
 #[derive(Clone, Copy, Debug, PartialEq, Eq)]
 pub enum Kind {
     Cooling,
@@ -108,54 +124,114 @@ pub fn is_well_formed_block(block: &[u8]) -> bool {
 
 impl Shelf {
     pub fn well_formed(&self) -> bool {
-        let elements: usize = self.groups.iter().map(|group| group.elements.len()).sum();
         (1..=TYPE_SLOTS).contains(&self.groups.len())
-            && elements <= MOST_ELEMENTS
+            && self.elements().count() <= MOST_ELEMENTS
             && self.groups.iter().all(Group::well_formed)
     }
 
+    pub fn elements(&self) -> impl Iterator<Item = &Element> {
+        self.groups.iter().flat_map(|group| &group.elements)
+    }
+
+    pub fn configuration(&self) -> Configuration {
+        Configuration {
+            generation: self.generation,
+            identification: self.identification.clone(),
+            types: self.groups.iter().map(Group::entry).collect(),
+        }
+    }
+
     pub fn block(&self) -> Vec<u8> {
-        let mut block = Vec::new();
-        block.extend(self.generation.to_be_bytes());
-        block.extend(self.identification.logical_identifier);
-        block.extend(self.identification.vendor);
-        block.extend(self.identification.product);
-        block.extend(self.identification.revision);
-        block.extend([self.groups.len() as u8, 0, 0, 0]);
-        for group in &self.groups {
-            block.extend(group.slot());
-        }
-        for _ in self.groups.len()..TYPE_SLOTS {
-            block.extend([0; SLOT_BYTES]);
-        }
-        for element in self.groups.iter().flat_map(|group| &group.elements) {
+        let mut block = self.configuration().block();
+        for element in self.elements() {
             block.extend(element.bytes());
         }
         block
     }
 
     fn parse(cursor: &mut Cursor) -> Option<Shelf> {
-        let generation = u32::from_be_bytes(cursor.take()?);
-        let identification = Identification {
-            logical_identifier: cursor.take()?,
-            vendor: cursor.take()?,
-            product: cursor.take()?,
-            revision: cursor.take()?,
+        let configuration = Configuration::parse(cursor)?;
+        let mut groups = Vec::new();
+        for entry in configuration.types {
+            groups.push(Group::parse(entry, cursor)?);
+        }
+        Some(Shelf {
+            generation: configuration.generation,
+            identification: configuration.identification,
+            groups,
+        })
+    }
+}
+
+impl Configuration {
+    /// The configuration whose block these bytes are, or none if no well-formed shelf's block
+    /// starts with just them.
+    pub fn read(block: &[u8]) -> Option<Configuration> {
+        let configuration = Configuration::parse(&mut Cursor { rest: block })?;
+        (configuration.well_formed() && configuration.block() == block).then_some(configuration)
+    }
+
+    /// There is a well-formed shelf that has it.
+    pub fn well_formed(&self) -> bool {
+        let plain_shelf = Shelf {
+            generation: self.generation,
+            identification: self.identification.clone(),
+            groups: self.types.iter().map(Type::plain_group).collect(),
         };
+        plain_shelf.well_formed()
+    }
+
+    pub fn block(&self) -> Vec<u8> {
+        let mut block = Vec::new();
+        block.extend(self.generation.to_be_bytes());
+        block.extend(self.identification.bytes());
+        block.extend([self.types.len() as u8, 0, 0, 0]);
+        for entry in &self.types {
+            block.extend(entry.slot());
+        }
+        for _ in self.types.len()..TYPE_SLOTS {
+            block.extend([0; SLOT_BYTES]);
+        }
+        block
+    }
+
+    fn parse(cursor: &mut Cursor) -> Option<Configuration> {
+        let generation = u32::from_be_bytes(cursor.take()?);
+        let identification = Identification::parse(cursor)?;
         let [types, _, _, _] = cursor.take()?;
         let mut slots = Vec::new();
         for _ in 0..TYPE_SLOTS {
             slots.push(cursor.take::<SLOT_BYTES>()?);
         }
-        let mut groups = Vec::new();
+        let mut entries = Vec::new();
         for slot in slots.get(..usize::from(types))? {
-            groups.push(Group::parse(slot, cursor)?);
+            entries.push(Type::parse(slot)?);
         }
-        Some(Shelf {
+        Some(Configuration {
             generation,
             identification,
-            groups,
+            types: entries,
         })
+    }
+}
+
+impl Identification {
+    pub fn parse(cursor: &mut Cursor) -> Option<Identification> {
+        Some(Identification {
+            logical_identifier: cursor.take()?,
+            vendor: cursor.take()?,
+            product: cursor.take()?,
+            revision: cursor.take()?,
+        })
+    }
+
+    pub fn bytes(&self) -> Vec<u8> {
+        let mut bytes = Vec::new();
+        bytes.extend(self.logical_identifier);
+        bytes.extend(self.vendor);
+        bytes.extend(self.product);
+        bytes.extend(self.revision);
+        bytes
     }
 }
 
@@ -174,26 +250,50 @@ impl Group {
             && self.elements.iter().all(Element::well_formed)
     }
 
+    fn entry(&self) -> Type {
+        Type {
+            kind: self.kind,
+            count: self.elements.len(),
+            text: self.text.clone(),
+        }
+    }
+
+    fn parse(entry: Type, cursor: &mut Cursor) -> Option<Group> {
+        let mut elements = Vec::new();
+        for _ in 0..entry.count {
+            elements.push(Element::parse(entry.kind, cursor)?);
+        }
+        Some(Group {
+            kind: entry.kind,
+            text: entry.text,
+            elements,
+        })
+    }
+}
+
+impl Type {
+    fn plain_group(&self) -> Group {
+        Group {
+            kind: self.kind,
+            text: self.text.clone(),
+            elements: vec![Element::plain(self.kind); self.count],
+        }
+    }
+
     fn slot(&self) -> [u8; SLOT_BYTES] {
         let mut slot = [0; SLOT_BYTES];
         slot[0] = self.kind.code();
-        slot[1] = self.elements.len() as u8;
+        slot[1] = self.count as u8;
         slot[2] = self.text.len() as u8;
         slot[4..4 + self.text.len()].copy_from_slice(&self.text);
         slot
     }
 
-    fn parse(slot: &[u8; SLOT_BYTES], cursor: &mut Cursor) -> Option<Group> {
-        let kind = Kind::from_code(slot[0])?;
-        let text = slot[4..].get(..usize::from(slot[2]))?.to_vec();
-        let mut elements = Vec::new();
-        for _ in 0..slot[1] {
-            elements.push(Element::parse(kind, cursor)?);
-        }
-        Some(Group {
-            kind,
-            text,
-            elements,
+    fn parse(slot: &[u8; SLOT_BYTES]) -> Option<Type> {
+        Some(Type {
+            kind: Kind::from_code(slot[0])?,
+            count: slot[1].into(),
+            text: slot[4..].get(..usize::from(slot[2]))?.to_vec(),
         })
     }
 }
@@ -215,7 +315,7 @@ impl Kind {
         }
     }
 
-    fn from_code(code: u8) -> Option<Kind> {
+    pub fn from_code(code: u8) -> Option<Kind> {
         Kind::ALL.into_iter().find(|kind| kind.code() == code)
     }
 }
@@ -230,6 +330,42 @@ impl Element {
         }
     }
 
+    /// A well-formed element with as little in it as may be.
+    fn plain(kind: Kind) -> Element {
+        let settings = Settings::default();
+        let thresholds = Thresholds::default();
+        match kind {
+            Kind::Cooling => Element::Cooling {
+                settings: FanSettings {
+                    common: settings,
+                    on: false,
+                    speed: 1,
+                },
+                thresholds,
+                reading: 0,
+                nominal: 0,
+            },
+            Kind::Temperature => Element::Temperature {
+                settings,
+                thresholds,
+                reading: 0,
+                nominal: 0,
+            },
+            Kind::Voltage => Element::Voltage {
+                settings,
+                thresholds,
+                reading: 0,
+                nominal: 1,
+            },
+            Kind::Current => Element::Current {
+                settings,
+                thresholds,
+                reading: 0,
+                nominal: 1,
+            },
+        }
+    }
+
     fn well_formed(&self) -> bool {
         let in_range = match self {
             Element::Cooling {
@@ -239,7 +375,7 @@ impl Element {
                 nominal,
             } => {
                 (1..=7).contains(&settings.speed)
-                    && *thresholds == Thresholds::default()
+                    && thresholds.had_by(Kind::Cooling)
                     && *reading <= 2047
                     && *nominal == 0
             }
@@ -251,11 +387,7 @@ impl Element {
                 thresholds,
                 nominal,
                 ..
-            } => {
-                thresholds.low_warning == 0
-                    && thresholds.low_critical == 0
-                    && (1..=32767).contains(nominal)
-            }
+            } => thresholds.had_by(Kind::Current) && (1..=32767).contains(nominal),
         };
         in_range && self.thresholds().keep_order(self.kind())
     }
@@ -382,7 +514,7 @@ impl FanSettings {
 }
 
 impl Thresholds {
-    fn bytes(&self) -> [u8; 4] {
+    pub fn bytes(&self) -> [u8; 4] {
         [
             self.high_critical,
             self.high_warning,
@@ -402,14 +534,20 @@ impl Thresholds {
 }
 
 /// Bytes taken from the front, none once they run out.
-struct Cursor<'a> {
-    rest: &'a [u8],
+pub struct Cursor<'a> {
+    pub rest: &'a [u8],
 }
 
 impl Cursor<'_> {
-    fn take<const N: usize>(&mut self) -> Option<[u8; N]> {
+    pub fn take<const N: usize>(&mut self) -> Option<[u8; N]> {
         let taken = self.rest.get(..N)?.try_into().ok()?;
         self.rest = &self.rest[N..];
+        Some(taken)
+    }
+
+    pub fn take_some(&mut self, length: usize) -> Option<Vec<u8>> {
+        let taken = self.rest.get(..length)?.to_vec();
+        self.rest = &self.rest[length..];
         Some(taken)
     }
 }

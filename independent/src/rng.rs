@@ -29,6 +29,10 @@ impl Rng {
         self.range(1, 255) as u8
     }
 
+    pub fn bytes(&mut self, length: usize) -> Vec<u8> {
+        (0..length).map(|_| self.byte()).collect()
+    }
+
     pub fn word(&mut self) -> u16 {
         (self.next() >> 48) as u16
     }

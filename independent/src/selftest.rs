@@ -1,5 +1,7 @@
-//! Checks this program alone: the paper's own numbers for one element, and examples worked out by
-//! hand from its rules where it gives none.
+//! Checks this program alone: the paper's own numbers, and examples worked out by hand from its rules
+//! where it gives none.
+
+mod pages;
 
 use crate::element::{Code, Limits, ReservedBit, Verdict};
 use crate::record::{
@@ -29,6 +31,7 @@ pub fn run() -> bool {
     current_verdicts(&mut checks);
     thresholds(&mut checks);
     block_of_fans_a(&mut checks);
+    pages::check(&mut checks);
     println!(
         "selftest: {} checked, {} failed",
         checks.made, checks.failed

@@ -1,0 +1,217 @@
+//! The nine calls on bytes, as the C library has them.
+
+use super::status::Status;
+use super::thresholds::ThresholdList;
+use super::{configuration, Refusal};
+use crate::record::{self, Configuration, Shelf};
+
+pub const CONFIGURATION_BYTES: usize = 332;
+pub const STATUS_BYTES: usize = 1156;
+pub const THRESHOLDS_BYTES: usize = 292;
+
+/// The number of a call's answer, and all bytes of it as the door sends them.
+#[derive(Clone, Debug, PartialEq, Eq)]
+pub struct Answer {
+    pub number: u8,
+    pub bytes: Vec<u8>,
+}
+
+pub struct Call {
+    pub name: &'static str,
+    pub letter: u8,
+    /// Every number that the call can answer with.
+    pub outcomes: &'static [u8],
+    rule: Rule,
+}
+
+/// By the number of buffers it looks at; the last buffer is the one that it may change.
+enum Rule {
+    OfOne(fn(&[u8], &[u8]) -> Answer),
+    OfTwo(fn(&[u8], &[u8], &[u8]) -> Answer),
+}
+
+pub static WRITE_CONFIGURATION: Call = Call {
+    name: "write_configuration",
+    letter: b'A',
+    outcomes: &[0, 1, 11],
+    rule: Rule::OfOne(write_configuration),
+};
+
+pub static WRITE_STATUS: Call = Call {
+    name: "write_status",
+    letter: b'B',
+    outcomes: &[0, 1, 11],
+    rule: Rule::OfOne(write_status),
+};
+
+pub static WRITE_THRESHOLDS: Call = Call {
+    name: "write_thresholds",
+    letter: b'C',
+    outcomes: &[0, 1, 11],
+    rule: Rule::OfOne(write_thresholds),
+};
+
+pub static READ_CONFIGURATION: Call = Call {
+    name: "read_configuration",
+    letter: b'D',
+    outcomes: &[0, 2, 3, 4, 6],
+    rule: Rule::OfOne(read_configuration),
+};
+
+pub static READ_STATUS: Call = Call {
+    name: "read_status",
+    letter: b'E',
+    outcomes: &[0, 1, 2, 3, 4, 5, 6],
+    rule: Rule::OfTwo(read_status),
+};
+
+pub static READ_THRESHOLDS: Call = Call {
+    name: "read_thresholds",
+    letter: b'F',
+    outcomes: &[0, 1, 2, 3, 4, 5, 6, 7, 8],
+    rule: Rule::OfTwo(read_thresholds),
+};
+
+pub static REWRITE_CONFIGURATION: Call = Call {
+    name: "rewrite_configuration",
+    letter: b'G',
+    outcomes: &[0, 1, 11],
+    rule: Rule::OfOne(rewrite_configuration),
+};
+
+pub static REWRITE_STATUS: Call = Call {
+    name: "rewrite_status",
+    letter: b'H',
+    outcomes: &[0, 1, 6, 9, 11],
+    rule: Rule::OfTwo(rewrite_status),
+};
+
+pub static REWRITE_THRESHOLDS: Call = Call {
+    name: "rewrite_thresholds",
+    letter: b'I',
+    outcomes: &[0, 1, 6, 7, 8, 9, 11],
+    rule: Rule::OfTwo(rewrite_thresholds),
+};
+
+pub static ALL: [&Call; 9] = [
+    &WRITE_CONFIGURATION,
+    &WRITE_STATUS,
+    &WRITE_THRESHOLDS,
+    &READ_CONFIGURATION,
+    &READ_STATUS,
+    &READ_THRESHOLDS,
+    &REWRITE_CONFIGURATION,
+    &REWRITE_STATUS,
+    &REWRITE_THRESHOLDS,
+];
+
+impl Call {
+    pub fn answer(&self, inputs: &[Vec<u8>], lent: &[u8]) -> Answer {
+        match (&self.rule, inputs) {
+            (Rule::OfOne(rule), [input]) => rule(input, lent),
+            (Rule::OfTwo(rule), [configuration, input]) => rule(configuration, input, lent),
+            _ => panic!("{} takes another number of buffers", self.name),
+        }
+    }
+}
+
+pub fn write_configuration(shelf: &[u8], out: &[u8]) -> Answer {
+    let page = |shelf: Shelf| configuration::page(&shelf.configuration());
+    wrote(well_formed_shelf(shelf).map(page), out)
+}
+
+pub fn write_status(shelf: &[u8], out: &[u8]) -> Answer {
+    let page = |shelf: Shelf| Status::of(&shelf).page(shelf.generation);
+    wrote(well_formed_shelf(shelf).map(page), out)
+}
+
+pub fn write_thresholds(shelf: &[u8], out: &[u8]) -> Answer {
+    let page = |shelf: Shelf| ThresholdList::of(&shelf).page(shelf.generation);
+    wrote(well_formed_shelf(shelf).map(page), out)
+}
+
+pub fn read_configuration(page: &[u8], before: &[u8]) -> Answer {
+    let read = configuration::read(page);
+    handed_back(read.map(|configuration| configuration.block()), before)
+}
+
+pub fn read_status(configuration: &[u8], page: &[u8], before: &[u8]) -> Answer {
+    let read = well_formed(configuration)
+        .and_then(|configuration| Status::read(&configuration, page))
+        .map(|status| status.record());
+    handed_back(read, before)
+}
+
+pub fn read_thresholds(configuration: &[u8], page: &[u8], before: &[u8]) -> Answer {
+    let read = well_formed(configuration)
+        .and_then(|configuration| ThresholdList::read(&configuration, page))
+        .map(|thresholds| thresholds.record());
+    handed_back(read, before)
+}
+
+pub fn rewrite_configuration(configuration: &[u8], out: &[u8]) -> Answer {
+    let page = |configuration| configuration::page(&configuration);
+    wrote(well_formed(configuration).map(page), out)
+}
+
+pub fn rewrite_status(configuration: &[u8], record: &[u8], out: &[u8]) -> Answer {
+    let page = |configuration: Configuration| {
+        let status = Status::from_record(&configuration, record)?;
+        Ok(status.page(configuration.generation))
+    };
+    wrote(well_formed(configuration).and_then(page), out)
+}
+
+pub fn rewrite_thresholds(configuration: &[u8], record: &[u8], out: &[u8]) -> Answer {
+    let page = |configuration: Configuration| {
+        let thresholds = ThresholdList::from_record(&configuration, record)?;
+        Ok(thresholds.page(configuration.generation))
+    };
+    wrote(well_formed(configuration).and_then(page), out)
+}
+
+fn well_formed_shelf(block: &[u8]) -> Result<Shelf, Refusal> {
+    record::read(block)
+        .filter(Shelf::well_formed)
+        .ok_or(Refusal::NotWellFormed)
+}
+
+fn well_formed(block: &[u8]) -> Result<Configuration, Refusal> {
+    Configuration::read(block).ok_or(Refusal::NotWellFormed)
+}
+
+/// The number, four bytes with the length of the page, and the output buffer.
+fn wrote(page: Result<Vec<u8>, Refusal>, out: &[u8]) -> Answer {
+    let page = page.and_then(|page| {
+        if page.len() <= out.len() {
+            Ok(page)
+        } else {
+            Err(Refusal::OutputTooShort)
+        }
+    });
+    let (number, page) = outcome(page);
+    let mut bytes = vec![number];
+    bytes.extend((page.len() as u32).to_be_bytes());
+    bytes.extend(laid_over(page, out));
+    Answer { number, bytes }
+}
+
+/// The number, and the record.
+fn handed_back(record: Result<Vec<u8>, Refusal>, before: &[u8]) -> Answer {
+    let (number, record) = outcome(record);
+    let mut bytes = vec![number];
+    bytes.extend(laid_over(record, before));
+    Answer { number, bytes }
+}
+
+fn outcome(made: Result<Vec<u8>, Refusal>) -> (u8, Vec<u8>) {
+    match made {
+        Ok(made) => (0, made),
+        Err(refusal) => (refusal as u8, Vec::new()),
+    }
+}
+
+fn laid_over(front: Vec<u8>, before: &[u8]) -> Vec<u8> {
+    let kept = &before[front.len()..];
+    [&front, kept].concat()
+}

@@ -1,0 +1,67 @@
+//! Calls to compare: every call, with good input of every shape and with all that can be wrong.
+
+mod changes;
+mod reading;
+mod rewriting;
+mod shapes;
+mod writing;
+
+use super::calls::{Answer, Call};
+use crate::rng::Rng;
+
+pub struct Case {
+    pub call: &'static Call,
+    /// The buffers that the call only looks at.
+    pub inputs: Vec<Vec<u8>>,
+    /// The output buffer or record before the call.
+    pub lent: Vec<u8>,
+}
+
+pub type Offer<'a> = &'a mut dyn FnMut(Case);
+
+impl Case {
+    pub fn answer(&self) -> Answer {
+        self.call.answer(&self.inputs, &self.lent)
+    }
+}
+
+pub fn offer_all(rng: &mut Rng, offer: Offer) {
+    writing::offer_all(rng, offer);
+    reading::offer_all(rng, offer);
+    rewriting::offer_all(rng, offer);
+}
+
+const LONGEST_PAGE: usize = 65_539;
+/// As long as any page that a shelf has, and longer.
+const ROOM: usize = 400;
+
+/// A call that writes, with an output buffer of a telling length.
+fn writing_case(rng: &mut Rng, call: &'static Call, inputs: Vec<Vec<u8>>) -> Case {
+    let page = page_written(call, &inputs).len();
+    let length = output_length(rng, page);
+    Case {
+        call,
+        inputs,
+        lent: rng.bytes(length),
+    }
+}
+
+/// Empty if the call refuses.
+fn page_written(call: &Call, inputs: &[Vec<u8>]) -> Vec<u8> {
+    let answer = call.answer(inputs, &[0; ROOM]);
+    let (header, out) = answer.bytes.split_at(5);
+    let length = usize::from(u16::from_be_bytes([header[3], header[4]]));
+    out[..length].to_vec()
+}
+
+fn output_length(rng: &mut Rng, page: usize) -> usize {
+    match rng.range(0, 199) {
+        0 => rng.pick(&[LONGEST_PAGE, LONGEST_PAGE + 1, LONGEST_PAGE + 5, 2 * 65_536]),
+        1..=10 => rng.range(0, 8),
+        11..=30 => page.saturating_sub(1),
+        31..=50 => rng.range(0, page),
+        51..=120 => page,
+        121..=140 => page + 1,
+        _ => page + rng.range(2, 64),
+    }
+}

@@ -1,0 +1,182 @@
+//! What readers handed back, to be written again, and records that no reader hands back.
+
+use super::reading::{accepted_status, accepted_thresholds, other_configuration, quadruples};
+use super::shapes::{one_of_each, shelf};
+use super::{page_written, writing_case, Case, Offer, ROOM};
+use crate::pages::calls::{
+    Call, CONFIGURATION_BYTES, READ_STATUS, READ_THRESHOLDS, REWRITE_CONFIGURATION, REWRITE_STATUS,
+    REWRITE_THRESHOLDS, STATUS_BYTES, THRESHOLDS_BYTES,
+};
+use crate::record::Shelf;
+use crate::rng::Rng;
+
+pub fn offer_all(rng: &mut Rng, offer: Offer) {
+    configurations(rng, offer);
+    for rewriter in [&STATUS, &THRESHOLDS] {
+        for _ in 0..8_000 {
+            let inputs = rewriter.changed(rng);
+            offer(writing_case(rng, rewriter.call, inputs));
+        }
+        rewriter.every_value_of_every_byte(rng, offer);
+        rewriter.every_output_length(rng, offer);
+    }
+    threshold_quadruples(rng, offer);
+}
+
+/// A rewriter with the reader that hands back its records.
+struct Rewriter {
+    call: &'static Call,
+    reader: &'static Call,
+    accepted_page: fn(&mut Rng, &Shelf) -> Vec<Vec<u8>>,
+    record_bytes: usize,
+    entry_bytes: usize,
+}
+
+static STATUS: Rewriter = Rewriter {
+    call: &REWRITE_STATUS,
+    reader: &READ_STATUS,
+    accepted_page: accepted_status,
+    record_bytes: STATUS_BYTES,
+    entry_bytes: 16,
+};
+
+static THRESHOLDS: Rewriter = Rewriter {
+    call: &REWRITE_THRESHOLDS,
+    reader: &READ_THRESHOLDS,
+    accepted_page: accepted_thresholds,
+    record_bytes: THRESHOLDS_BYTES,
+    entry_bytes: 4,
+};
+
+impl Rewriter {
+    /// A configuration, and a record that the reader hands back under it.
+    fn accepted(&self, rng: &mut Rng, shelf: &Shelf) -> Vec<Vec<u8>> {
+        let mut inputs = (self.accepted_page)(rng, shelf);
+        let before = rng.bytes(self.record_bytes);
+        let answer = self.reader.answer(&inputs, &before);
+        inputs[1] = answer.bytes[1..].to_vec();
+        inputs
+    }
+
+    fn changed(&self, rng: &mut Rng) -> Vec<Vec<u8>> {
+        let shelf = shelf(rng);
+        let mut inputs = self.accepted(rng, &shelf);
+        if rng.one_in(8) {
+            inputs[0] = other_configuration(rng, &shelf);
+        }
+        let record = &mut inputs[1];
+        if rng.one_in(50) {
+            *record = rng.bytes(self.record_bytes);
+        }
+        if rng.one_in(8) {
+            other_number_of_entries(rng, record);
+        }
+        if rng.one_in(2) {
+            for _ in 0..rng.range(1, 3) {
+                self.other_field(rng, record);
+            }
+        }
+        if rng.one_in(8) {
+            record[rng.range(0, 1)] = rng.byte();
+        }
+        inputs
+    }
+
+    fn other_field(&self, rng: &mut Rng, record: &mut [u8]) {
+        let used = self.used(record);
+        if used > 4 {
+            let any = rng.byte();
+            let value = rng.pick(&[0, 1, 1, 2, 3, 7, 8, 9, 16, 128, 255, any]);
+            record[rng.range(4, used - 1)] = value;
+        }
+    }
+
+    /// The bytes up to the last entry.
+    fn used(&self, record: &[u8]) -> usize {
+        let entries = usize::from(u16::from_be_bytes([record[2], record[3]]));
+        record.len().min(4 + self.entry_bytes * entries)
+    }
+
+    fn every_value_of_every_byte(&self, rng: &mut Rng, offer: Offer) {
+        let shelf = one_of_each(rng);
+        let inputs = self.accepted(rng, &shelf);
+        for at in 0..self.used(&inputs[1]) + self.entry_bytes {
+            for value in 0..=255 {
+                let mut changed = inputs.clone();
+                changed[1][at] = value;
+                offer(self.roomy_case(rng, changed));
+            }
+        }
+    }
+
+    fn every_output_length(&self, rng: &mut Rng, offer: Offer) {
+        let shelf = one_of_each(rng);
+        let inputs = self.accepted(rng, &shelf);
+        for length in 0..page_written(self.call, &inputs).len() + 8 {
+            offer(Case {
+                call: self.call,
+                inputs: inputs.clone(),
+                lent: rng.bytes(length),
+            });
+        }
+    }
+
+    fn roomy_case(&self, rng: &mut Rng, inputs: Vec<Vec<u8>>) -> Case {
+        Case {
+            call: self.call,
+            inputs,
+            lent: rng.bytes(ROOM),
+        }
+    }
+}
+
+fn other_number_of_entries(rng: &mut Rng, record: &mut [u8]) {
+    let number = u16::from_be_bytes([record[2], record[3]]);
+    let any = rng.word();
+    let other = rng.pick(&[
+        0,
+        72,
+        73,
+        any,
+        number.wrapping_add(1),
+        number.wrapping_sub(1),
+        number.wrapping_add(256),
+    ]);
+    record[2..4].copy_from_slice(&other.to_be_bytes());
+}
+
+/// Each entry of a threshold record in turn takes these four bytes.
+fn threshold_quadruples(rng: &mut Rng, offer: Offer) {
+    let shelf = one_of_each(rng);
+    let inputs = THRESHOLDS.accepted(rng, &shelf);
+    for at in (4..THRESHOLDS.used(&inputs[1])).step_by(4) {
+        for four in quadruples() {
+            let mut changed = inputs.clone();
+            changed[1][at..at + 4].copy_from_slice(&four);
+            offer(THRESHOLDS.roomy_case(rng, changed));
+        }
+    }
+}
+
+fn configurations(rng: &mut Rng, offer: Offer) {
+    for _ in 0..4_000 {
+        let shelf = shelf(rng);
+        let block = if rng.one_in(2) {
+            shelf.configuration().block()
+        } else {
+            other_configuration(rng, &shelf)
+        };
+        offer(writing_case(rng, &REWRITE_CONFIGURATION, vec![block]));
+    }
+    let block = one_of_each(rng).configuration().block();
+    for at in 40..CONFIGURATION_BYTES {
+        for value in [
+            0x00, 0x01, 0x02, 0x03, 0x04, 0x12, 0x13, 0x1F, 0x20, 0x21, 0x40, 0x41, 0x7E, 0x7F,
+            0xFF,
+        ] {
+            let mut changed = block.clone();
+            changed[at] = value;
+            offer(writing_case(rng, &REWRITE_CONFIGURATION, vec![changed]));
+        }
+    }
+}

@@ -1,0 +1,480 @@
+//! The paper's numbers for whole pages.
+
+use super::{
+    block_a, current, fan, fan_at, fan_like, fans_a, high_critical, high_warning, low_critical,
+    shelf_a, temperature, voltage, Checks,
+};
+use crate::pages::calls::{
+    read_configuration, read_status, read_thresholds, rewrite_configuration, rewrite_status,
+    rewrite_thresholds, write_configuration, write_status, write_thresholds, Answer,
+    CONFIGURATION_BYTES, STATUS_BYTES, THRESHOLDS_BYTES,
+};
+use crate::record::{Element, Group, Kind, Settings, Shelf, Thresholds};
+
+/// Memory before a call.
+const BEFORE: u8 = 0xA5;
+
+const STATUS_A: [u8; 24] = [
+    0x02, 0x00, 0x00, 0x14, 0x00, 0x00, 0x00, 0x07, 0x01, 0x00, 0x00, 0x00, 0x01, 0x00, 0x78, 0x23,
+    0x01, 0x00, 0x78, 0x23, 0x01, 0x00, 0x78, 0x23,
+];
+
+const THRESHOLDS_A: [u8; 24] = [
+    0x05, 0x00, 0x00, 0x14, 0x00, 0x00, 0x00, 0x07, 0, 0, 0, 0, 0, 0, 0, 0, 0, 0, 0, 0, 0, 0, 0, 0,
+];
+
+pub(super) fn check(checks: &mut Checks) {
+    pages_of_a(checks);
+    output_lengths(checks);
+    configurations_read(checks);
+    status_headers(checks);
+    status_fields(checks);
+    statuses_handed_back(checks);
+    statuses_rewritten(checks);
+    worst_codes(checks);
+    thresholds_read(checks);
+    thresholds_rewritten(checks);
+}
+
+/// Bytes 0 to 54 as the paper lays them out; A's identification is zeros here.
+fn configuration_a() -> Vec<u8> {
+    let mut page = vec![0x01, 0x00, 0x00, 0x33, 0x00, 0x00, 0x00, 0x07];
+    page.extend([0x11, 0x00, 0x01, 0x24]);
+    page.extend([0; 36]);
+    page.extend([0x03, 0x03, 0x00, 0x03, b'F', b'a', b'n']);
+    page
+}
+
+fn configuration_block_a() -> Vec<u8> {
+    block_a()[..CONFIGURATION_BYTES].to_vec()
+}
+
+fn written(page: &[u8], room: usize) -> Answer {
+    let mut bytes = vec![0, 0, 0, 0, page.len() as u8];
+    bytes.extend(page);
+    bytes.resize(5 + room, BEFORE);
+    Answer { number: 0, bytes }
+}
+
+fn not_written(number: u8, room: usize) -> Answer {
+    let mut bytes = vec![number, 0, 0, 0, 0];
+    bytes.resize(5 + room, BEFORE);
+    Answer { number, bytes }
+}
+
+fn not_read(number: u8, record: usize) -> Answer {
+    let mut bytes = vec![number];
+    bytes.resize(1 + record, BEFORE);
+    Answer { number, bytes }
+}
+
+fn pages_of_a(checks: &mut Checks) {
+    let (block, configuration) = (block_a(), configuration_block_a());
+    checks.equal("page length of A", configuration_a().len(), 55);
+    checks.equal(
+        "configuration of A",
+        write_configuration(&block, &[BEFORE; 60]),
+        written(&configuration_a(), 60),
+    );
+    checks.equal(
+        "configuration of A, again",
+        rewrite_configuration(&configuration, &[BEFORE; 60]),
+        written(&configuration_a(), 60),
+    );
+    checks.equal(
+        "status of A",
+        write_status(&block, &[BEFORE; 30]),
+        written(&STATUS_A, 30),
+    );
+    checks.equal(
+        "thresholds of A",
+        write_thresholds(&block, &[BEFORE; 30]),
+        written(&THRESHOLDS_A, 30),
+    );
+    let standing = shelf_a(vec![fan_at(0), fan(3), fan(3)]).block();
+    let mut page = STATUS_A;
+    page[1] = 0x02;
+    page[8] = 0x02;
+    page[12..16].copy_from_slice(&[0x02, 0x00, 0x00, 0x23]);
+    checks.equal(
+        "ON, reading 0, whole",
+        write_status(&standing, &[BEFORE; 24]),
+        written(&page, 24),
+    );
+}
+
+fn output_lengths(checks: &mut Checks) {
+    let block = block_a();
+    let at_23 = write_status(&block, &[BEFORE; 23]);
+    checks.equal("status of A in 23 bytes", at_23, not_written(11, 23));
+    let at_24 = write_status(&block, &[BEFORE; 24]);
+    checks.equal("status of A in 24 bytes", at_24, written(&STATUS_A, 24));
+    let at_54 = write_configuration(&block, &[BEFORE; 54]);
+    checks.equal("configuration in 54", at_54, not_written(11, 54));
+    let at_23 = write_thresholds(&block, &[BEFORE; 23]);
+    checks.equal("thresholds in 23", at_23, not_written(11, 23));
+    let broken = write_status(&block[1..], &[]);
+    checks.equal("broken shelf, no output", broken, not_written(1, 0));
+    let broken = rewrite_configuration(&block, &[BEFORE; 9]);
+    checks.equal("whole block, short output", broken, not_written(1, 9));
+}
+
+/// The page with these bytes at this place.
+fn with(page: &[u8], at: usize, bytes: &[u8]) -> Vec<u8> {
+    let mut changed = page.to_vec();
+    changed[at..at + bytes.len()].copy_from_slice(bytes);
+    changed
+}
+
+fn configurations_read(checks: &mut Checks) {
+    let page = configuration_a();
+    let accepted = Answer {
+        number: 0,
+        bytes: [vec![0], configuration_block_a()].concat(),
+    };
+    checks.equal(
+        "configuration of A read",
+        read_configuration(&page, &[BEFORE; CONFIGURATION_BYTES]),
+        accepted,
+    );
+    let no_types = with(&page[..48], 2, &[0x00, 0x2C, 0, 0, 0, 7, 0x11, 0x00, 0x00]);
+    let refused: [(&str, u8, Vec<u8>); 22] = [
+        ("empty page", 2, Vec::new()),
+        ("page of 3 bytes", 2, page[..3].to_vec()),
+        ("3 bytes of another page", 2, vec![0x02, 0x00, 0x00]),
+        ("other page code", 3, with(&page, 0, &[0x02])),
+        (
+            "other page code and length",
+            3,
+            with(&page, 0, &[0x02, 0, 0, 0]),
+        ),
+        ("54 bytes", 4, page[..54].to_vec()),
+        ("56 bytes", 4, [&page[..], b" "].concat()),
+        ("4 bytes, said so", 4, vec![0x01, 0x00, 0x00, 0x00]),
+        ("47 bytes, said so", 4, with(&page[..47], 2, &[0x00, 0x2B])),
+        (
+            "headers beyond the page",
+            4,
+            with(&page[..51], 2, &[0x00, 0x2F]),
+        ),
+        ("texts beyond the page", 4, with(&page, 51, &[0x04])),
+        ("255 types", 4, with(&page, 10, &[0xFF])),
+        ("text shorter than the page", 4, with(&page, 51, &[0x02])),
+        ("length and byte 1", 4, with(&page, 1, &[0x01, 0x00, 0x34])),
+        ("byte 1", 6, with(&page, 1, &[0x01])),
+        ("two processes", 6, with(&page, 8, &[0x12])),
+        ("subenclosure 1", 6, with(&page, 9, &[0x01])),
+        ("no types", 6, no_types),
+        ("descriptor length", 6, with(&page, 11, &[0x25])),
+        ("type not served", 6, with(&page, 48, &[0x17])),
+        ("65 elements", 6, with(&page, 49, &[65])),
+        ("unprintable text", 6, with(&page, 54, &[0x7F])),
+    ];
+    for (what, number, page) in refused {
+        let answer = read_configuration(&page, &[BEFORE; CONFIGURATION_BYTES]);
+        checks.equal(what, answer, not_read(number, CONFIGURATION_BYTES));
+    }
+}
+
+fn status_headers(checks: &mut Checks) {
+    let configuration = configuration_block_a();
+    let longer = [&STATUS_A[..], &[0]].concat();
+    let one_fan_more = with(&[&STATUS_A[..], &[0; 4]].concat(), 2, &[0x00, 0x18]);
+    let cases: [(&str, u8, Vec<u8>); 10] = [
+        ("page of 3 bytes", 2, STATUS_A[..3].to_vec()),
+        ("threshold page as status", 3, THRESHOLDS_A.to_vec()),
+        ("23 bytes", 4, STATUS_A[..23].to_vec()),
+        ("25 bytes", 4, longer.clone()),
+        (
+            "23 bytes, said so",
+            4,
+            with(&STATUS_A[..23], 2, &[0x00, 0x13]),
+        ),
+        ("no generation code", 4, vec![0x02, 0x00, 0x00, 0x00]),
+        ("four fans", 4, one_fan_more),
+        ("generation 8", 5, with(&STATUS_A, 7, &[8])),
+        ("length and generation", 4, with(&longer, 7, &[8])),
+        (
+            "generation and byte 1",
+            5,
+            with(&with(&STATUS_A, 7, &[8]), 1, &[1]),
+        ),
+    ];
+    for (what, number, page) in cases {
+        let answer = read_status(&configuration, &page, &[BEFORE; STATUS_BYTES]);
+        checks.equal(what, answer, not_read(number, STATUS_BYTES));
+    }
+    let broken = with(&configuration, 41, &[1]);
+    for configuration in [&broken[..], &configuration[..331], &block_a()] {
+        let answer = read_status(configuration, &[], &[BEFORE; STATUS_BYTES]);
+        checks.equal("broken configuration", answer, not_read(1, STATUS_BYTES));
+    }
+}
+
+/// Which bits of a status page are allowed, all others zero: in page byte 1, an overall element and one
+/// element of each type. A single bit of a code, 8 at most, is always a code.
+fn status_fields(checks: &mut Checks) {
+    let named: [(Kind, u32); 4] = [
+        (Kind::Cooling, 0x7F87_FF77),
+        (Kind::Temperature, 0x7FC0_FF0F),
+        (Kind::Voltage, 0x7FCF_FFFF),
+        (Kind::Current, 0x7FCA_FFFF),
+    ];
+    for (kind, individual) in named {
+        let shelf = shelf_a_of(kind, vec![plain(kind)]);
+        let configuration = shelf.configuration().block();
+        let page = |element: u32, overall: u32| {
+            let header = [0x02, 0x00, 0x00, 0x0C, 0x00, 0x00, 0x00, 0x07];
+            [&header[..], &overall.to_be_bytes(), &element.to_be_bytes()].concat()
+        };
+        let number = |page: &[u8]| read_status(&configuration, page, &[0; STATUS_BYTES]).number;
+        for place in 0..32 {
+            let bit = 1_u32 << place;
+            let what = format!("{kind:?}, bit {place}");
+            let allowed = |named: u32| if named & bit == 0 { 6 } else { 0 };
+            checks.equal(&what, number(&page(bit, 0)), allowed(individual));
+            checks.equal(&what, number(&page(0, bit)), allowed(0x0F00_0000));
+        }
+        checks.equal("code 9", number(&page(0x0900_0000, 0)), 6);
+        checks.equal("overall code 9", number(&page(0, 0x0900_0000)), 6);
+        checks.equal("code 8", number(&page(0x0800_0000, 0x0800_0000)), 0);
+        for byte1 in 0..=0xFF {
+            let expected = if [0, 2, 4, 6].contains(&byte1) { 0 } else { 6 };
+            let page = with(&page(0, 0), 1, &[byte1]);
+            checks.equal("page byte 1", number(&page), expected);
+        }
+    }
+}
+
+/// A shelf like A, with elements of this type.
+fn shelf_a_of(kind: Kind, elements: Vec<Element>) -> Shelf {
+    let mut shelf = shelf_a(Vec::new());
+    shelf.groups = vec![group(kind, elements)];
+    shelf
+}
+
+fn group(kind: Kind, elements: Vec<Element>) -> Group {
+    Group {
+        kind,
+        text: b"Fan".to_vec(),
+        elements,
+    }
+}
+
+fn plain(kind: Kind) -> Element {
+    let none = Thresholds::default();
+    match kind {
+        Kind::Cooling => fan(3),
+        Kind::Temperature => temperature(64, none),
+        Kind::Voltage => voltage(1, 1, none),
+        Kind::Current => current(1, 1, none),
+    }
+}
+
+const OVERALL_OK: [u8; 16] = [1, 0, 0, 0, 0, 0, 0, 0, 0, 0, 0, 0, 0, 0, 0, 0];
+const FAN_OF_A: [u8; 16] = [1, 0, 0, 0, 0, 0, 1, 0, 3, 0, 0, 120, 0, 0, 0, 0];
+
+fn record_a() -> Vec<u8> {
+    let mut record = vec![0, 0, 0, 4];
+    record.extend(OVERALL_OK);
+    for _ in fans_a() {
+        record.extend(FAN_OF_A);
+    }
+    record.resize(STATUS_BYTES, BEFORE);
+    record
+}
+
+fn statuses_handed_back(checks: &mut Checks) {
+    let expected = Answer {
+        number: 0,
+        bytes: [vec![0], record_a()].concat(),
+    };
+    checks.equal(
+        "status of A read",
+        read_status(&configuration_block_a(), &STATUS_A, &[BEFORE; STATUS_BYTES]),
+        expected,
+    );
+    let all = Settings {
+        prdfail: true,
+        disabled: true,
+        swap: true,
+        ident: true,
+        fail: true,
+    };
+    let mut stopped = fan_like(all, 7, 2047);
+    if let Element::Cooling { settings, .. } = &mut stopped {
+        settings.on = false;
+    }
+    let cold = temperature(9, Thresholds::from_bytes([8, 8, 10, 10]));
+    let negative = voltage(-1, 1200, Thresholds::from_bytes([0, 0, 20, 20]));
+    let above = current(1321, 1200, Thresholds::from_bytes([20, 20, 0, 0]));
+    let entries: [(Element, [u8; 16]); 4] = [
+        (
+            stopped,
+            [1, 1, 1, 1, 1, 1, 0, 1, 7, 0, 0x07, 0xFF, 0, 0, 0, 0],
+        ),
+        (cold, [2, 0, 0, 0, 0, 0, 0, 0, 0, 0, 0x00, 0x09, 1, 1, 1, 1]),
+        (
+            negative,
+            [2, 0, 0, 0, 0, 0, 0, 0, 0, 0, 0xFF, 0xFF, 0, 0, 1, 1],
+        ),
+        (
+            above,
+            [2, 0, 0, 0, 0, 0, 0, 0, 0, 0, 0x05, 0x29, 1, 1, 0, 0],
+        ),
+    ];
+    for (element, entry) in entries {
+        let shelf = shelf_a_of(element.kind(), vec![element]);
+        let page = write_status(&shelf.block(), &[0; 16]).bytes[5..].to_vec();
+        let configuration = shelf.configuration().block();
+        let answer = read_status(&configuration, &page, &[BEFORE; STATUS_BYTES]);
+        checks.equal("entry handed back", &answer.bytes[21..37], &entry[..]);
+        let again = rewrite_status(&configuration, &answer.bytes[1..], &[BEFORE; 16]);
+        checks.equal("entry written again", again, written(&page, 16));
+    }
+}
+
+fn statuses_rewritten(checks: &mut Checks) {
+    let configuration = configuration_block_a();
+    let number = |record: &[u8], room: usize| {
+        rewrite_status(&configuration, record, &vec![BEFORE; room]).number
+    };
+    let record = record_a();
+    checks.equal(
+        "status of A, again",
+        rewrite_status(&configuration, &record, &[BEFORE; 30]),
+        written(&STATUS_A, 30),
+    );
+    let spare = with(&record, 4 + 9, &[0xFF]);
+    checks.equal("spare byte", number(&spare, 24), 0);
+    let five = with(&record, 3, &[5]);
+    checks.equal("five entries", number(&five, 24), 9);
+    checks.equal("five entries, CRIT 2", number(&with(&five, 1, &[2]), 0), 9);
+    checks.equal("CRIT 2, short", number(&with(&record, 1, &[2]), 0), 6);
+    checks.equal("short", number(&record, 23), 11);
+    let overall_fields = (1..16).filter(|field| *field != 9);
+    for field in overall_fields {
+        let set = with(&record, 4 + field, &[1]);
+        checks.equal("overall entry with more", number(&set, 24), 6);
+    }
+    for (field, most) in [
+        (0, 8),
+        (1, 1),
+        (2, 1),
+        (3, 1),
+        (4, 1),
+        (5, 1),
+        (6, 1),
+        (7, 1),
+        (8, 7),
+        (10, 7),
+    ] {
+        let (largest, larger) = (
+            with(&record, 20 + field, &[most]),
+            with(&record, 20 + field, &[most + 1]),
+        );
+        checks.equal("largest value", number(&largest, 24), 0);
+        checks.equal("larger value", number(&larger, 24), 6);
+    }
+    for field in 12..16 {
+        let set = with(&record, 20 + field, &[1]);
+        checks.equal("limit of a fan", number(&set, 24), 6);
+    }
+    let broken = rewrite_status(&configuration[1..], &five, &[BEFORE; 3]);
+    checks.equal("broken configuration", broken, not_written(1, 3));
+}
+
+fn worst_codes(checks: &mut Checks) {
+    let none = Thresholds::default();
+    let [normal, silent] = [temperature(64, none), temperature(0, none)];
+    let warm = temperature(65, high_warning(64));
+    let hot = temperature(65, high_critical(64));
+    let worst: [(&[Element], u8, u8); 8] = [
+        (&[], 0, 0x00),
+        (&[normal, normal], 1, 0x00),
+        (&[silent, normal], 6, 0x00),
+        (&[normal, silent, warm], 3, 0x04),
+        (&[warm, hot, silent], 2, 0x06),
+        (&[hot, silent, normal], 2, 0x02),
+        (&[warm, warm], 3, 0x04),
+        (&[normal, silent], 6, 0x00),
+    ];
+    for (elements, code, byte1) in worst {
+        let shelf = shelf_a_of(Kind::Temperature, elements.to_vec());
+        let page = write_status(&shelf.block(), &[BEFORE; 24]).bytes[5..].to_vec();
+        checks.equal("worst code", &page[8..12], &[code, 0, 0, 0]);
+        checks.equal("page byte 1", page[1], byte1);
+    }
+    let mut two_types = shelf_a_of(Kind::Temperature, vec![warm]);
+    let low = voltage(-1, 1200, low_critical(20));
+    two_types.groups.push(group(Kind::Voltage, Vec::new()));
+    two_types.groups.push(group(Kind::Voltage, vec![low]));
+    let expected = [
+        0x02, 0x06, 0x00, 0x18, 0x00, 0x00, 0x00, 0x07, 0x03, 0, 0, 0, 0x03, 0x00, 0x41, 0x04, 0,
+        0, 0, 0, 0x02, 0, 0, 0, 0x02, 0x01, 0xFF, 0xFF,
+    ];
+    checks.equal(
+        "an empty type between two",
+        write_status(&two_types.block(), &[BEFORE; 28]),
+        written(&expected, 28),
+    );
+}
+
+const THRESHOLD_HEADER: [u8; 8] = [0x05, 0x00, 0x00, 0x0C, 0x00, 0x00, 0x00, 0x07];
+
+/// Overall and individual bytes with the number they give.
+const THRESHOLD_CASES: [(Kind, [u8; 4], [u8; 4], u8); 13] = [
+    (Kind::Cooling, [0; 4], [0; 4], 0),
+    (Kind::Cooling, [0; 4], [0, 0, 0, 1], 7),
+    (Kind::Cooling, [0, 0, 0, 1], [0; 4], 6),
+    (Kind::Cooling, [1, 0, 0, 0], [1, 0, 0, 0], 6),
+    (Kind::Temperature, [0; 4], [90, 80, 20, 10], 0),
+    (Kind::Temperature, [0; 4], [90, 80, 10, 20], 8),
+    (Kind::Temperature, [0; 4], [80, 90, 20, 10], 8),
+    (Kind::Temperature, [0, 1, 0, 0], [80, 90, 20, 10], 6),
+    (Kind::Voltage, [0; 4], [90, 80, 10, 20], 0),
+    (Kind::Voltage, [0; 4], [90, 80, 20, 10], 8),
+    (Kind::Current, [0; 4], [9, 9, 0, 0], 0),
+    (Kind::Current, [0; 4], [9, 10, 1, 0], 7),
+    (Kind::Current, [0; 4], [9, 10, 0, 0], 8),
+];
+
+fn thresholds_read(checks: &mut Checks) {
+    for (kind, overall, individual, number) in THRESHOLD_CASES {
+        let configuration = shelf_a_of(kind, vec![plain(kind)]).configuration().block();
+        let page = [&THRESHOLD_HEADER[..], &overall, &individual].concat();
+        let answer = read_thresholds(&configuration, &page, &[BEFORE; THRESHOLDS_BYTES]);
+        let mut record = [&[0, 0, 0, 2][..], &overall, &individual].concat();
+        record.resize(THRESHOLDS_BYTES, BEFORE);
+        let expected = match number {
+            0 => Answer {
+                number,
+                bytes: [vec![0], record].concat(),
+            },
+            _ => not_read(number, THRESHOLDS_BYTES),
+        };
+        checks.equal("thresholds read", answer, expected);
+        let byte1 = with(&page, 1, &[2]);
+        let answer = read_thresholds(&configuration, &byte1, &[BEFORE; THRESHOLDS_BYTES]);
+        checks.equal("page byte 1", answer, not_read(6, THRESHOLDS_BYTES));
+    }
+}
+
+fn thresholds_rewritten(checks: &mut Checks) {
+    for (kind, overall, individual, number) in THRESHOLD_CASES {
+        let configuration = shelf_a_of(kind, vec![plain(kind)]).configuration().block();
+        let mut record = [&[0xFF, 0xFF, 0, 2][..], &overall, &individual].concat();
+        record.resize(THRESHOLDS_BYTES, BEFORE);
+        let page = [&THRESHOLD_HEADER[..], &overall, &individual].concat();
+        let (expected, expected_short) = match number {
+            0 => (written(&page, 16), not_written(11, 15)),
+            _ => (not_written(number, 16), not_written(number, 15)),
+        };
+        let answer = rewrite_thresholds(&configuration, &record, &[BEFORE; 16]);
+        checks.equal("thresholds, again", answer, expected);
+        let answer = rewrite_thresholds(&configuration, &record, &[BEFORE; 15]);
+        checks.equal("thresholds, again, short", answer, expected_short);
+        let answer = rewrite_thresholds(&configuration, &with(&record, 3, &[1]), &[BEFORE; 16]);
+        checks.equal("thresholds, one entry", answer, not_written(9, 16));
+    }
+}

@@ -1,0 +1,383 @@
+//! One element of the status page by its fields, as its four bytes and as a record's entry.
+
+use crate::bits::{bit, flag};
+use crate::element::Limits;
+use crate::record::{Configuration, Kind, Settings};
+use std::iter::{once, repeat};
+
+const SPARE_BYTE: usize = 9;
+
+/// What an element of the pages 02h and 05h stands for.
+#[derive(Clone, Copy, Debug, PartialEq, Eq)]
+pub enum Place {
+    Overall,
+    Individual(Kind),
+}
+
+impl Configuration {
+    /// The elements of a page in their order.
+    pub fn places(&self) -> Vec<Place> {
+        let places = self.types.iter().flat_map(|entry| {
+            once(Place::Overall).chain(repeat(Place::Individual(entry.kind)).take(entry.count))
+        });
+        places.collect()
+    }
+}
+
+/// The fields that each kind of element shows. Limits that a type does not have are false.
+#[derive(Clone, Copy, Debug, PartialEq, Eq)]
+pub enum Shown {
+    Overall {
+        code: u8,
+    },
+    Cooling {
+        code: u8,
+        settings: Settings,
+        on: bool,
+        off: bool,
+        speed: u8,
+        reading: u16,
+    },
+    Temperature {
+        code: u8,
+        settings: Settings,
+        reading: u8,
+        limits: Limits,
+    },
+    Voltage {
+        code: u8,
+        settings: Settings,
+        reading: i16,
+        limits: Limits,
+    },
+    Current {
+        code: u8,
+        settings: Settings,
+        reading: i16,
+        limits: Limits,
+    },
+}
+
+impl Shown {
+    /// None if the bytes have a bit set that the place does not name, or a code over 8.
+    pub fn from_element(place: Place, element: [u8; 4]) -> Option<Shown> {
+        let shown = Shown::parse_element(place, element);
+        (shown.in_range() && shown.element() == element).then_some(shown)
+    }
+
+    /// None if a field is out of range, or set where the place shows none.
+    pub fn from_entry(place: Place, entry: [u8; 16]) -> Option<Shown> {
+        let shown = Shown::parse_entry(place, entry);
+        let mut looked_at = entry;
+        looked_at[SPARE_BYTE] = 0;
+        (shown.in_range() && shown.entry() == looked_at).then_some(shown)
+    }
+
+    fn in_range(&self) -> bool {
+        match *self {
+            Shown::Overall { code }
+            | Shown::Temperature { code, .. }
+            | Shown::Voltage { code, .. }
+            | Shown::Current { code, .. } => code <= 8,
+            Shown::Cooling {
+                code,
+                speed,
+                reading,
+                ..
+            } => code <= 8 && speed <= 7 && reading <= 2047,
+        }
+    }
+
+    /// Passes over the bits without a name.
+    fn parse_element(place: Place, [byte0, byte1, byte2, byte3]: [u8; 4]) -> Shown {
+        let code = byte0 % 16;
+        let settings = Settings {
+            prdfail: bit(byte0, 6),
+            disabled: bit(byte0, 5),
+            swap: bit(byte0, 4),
+            ident: bit(byte1, 7),
+            fail: bit(byte1, 6),
+        };
+        match place {
+            Place::Overall => Shown::Overall { code },
+            Place::Individual(Kind::Cooling) => Shown::Cooling {
+                code,
+                settings: Settings {
+                    fail: bit(byte3, 6),
+                    ..settings
+                },
+                on: bit(byte3, 5),
+                off: bit(byte3, 4),
+                speed: byte3 % 8,
+                reading: u16::from_be_bytes([byte1 % 8, byte2]),
+            },
+            Place::Individual(Kind::Temperature) => Shown::Temperature {
+                code,
+                settings,
+                reading: byte2,
+                limits: Limits {
+                    critical_over: bit(byte3, 3),
+                    warning_over: bit(byte3, 2),
+                    critical_under: bit(byte3, 1),
+                    warning_under: bit(byte3, 0),
+                },
+            },
+            Place::Individual(Kind::Voltage) => Shown::Voltage {
+                code,
+                settings,
+                reading: i16::from_be_bytes([byte2, byte3]),
+                limits: Limits {
+                    warning_over: bit(byte1, 3),
+                    warning_under: bit(byte1, 2),
+                    critical_over: bit(byte1, 1),
+                    critical_under: bit(byte1, 0),
+                },
+            },
+            Place::Individual(Kind::Current) => Shown::Current {
+                code,
+                settings,
+                reading: i16::from_be_bytes([byte2, byte3]),
+                limits: Limits {
+                    warning_over: bit(byte1, 3),
+                    critical_over: bit(byte1, 1),
+                    ..Limits::default()
+                },
+            },
+        }
+    }
+
+    /// The four bytes on the status page.
+    pub fn element(&self) -> [u8; 4] {
+        match *self {
+            Shown::Overall { code } => [code, 0, 0, 0],
+            Shown::Cooling {
+                code,
+                settings,
+                on,
+                off,
+                speed,
+                reading,
+            } => {
+                let [upper, lower] = reading.to_be_bytes();
+                [
+                    byte0(code, settings),
+                    flag(settings.ident, 7) + upper,
+                    lower,
+                    flag(settings.fail, 6) + flag(on, 5) + flag(off, 4) + speed,
+                ]
+            }
+            Shown::Temperature {
+                code,
+                settings,
+                reading,
+                limits,
+            } => [
+                byte0(code, settings),
+                flag(settings.ident, 7) + flag(settings.fail, 6),
+                reading,
+                flag(limits.critical_over, 3)
+                    + flag(limits.warning_over, 2)
+                    + flag(limits.critical_under, 1)
+                    + flag(limits.warning_under, 0),
+            ],
+            Shown::Voltage {
+                code,
+                settings,
+                reading,
+                limits,
+            }
+            | Shown::Current {
+                code,
+                settings,
+                reading,
+                limits,
+            } => {
+                let byte1 = flag(settings.ident, 7)
+                    + flag(settings.fail, 6)
+                    + flag(limits.warning_over, 3)
+                    + flag(limits.warning_under, 2)
+                    + flag(limits.critical_over, 1)
+                    + flag(limits.critical_under, 0);
+                let [upper, lower] = reading.to_be_bytes();
+                [byte0(code, settings), byte1, upper, lower]
+            }
+        }
+    }
+
+    /// Passes over the fields that the place does not show.
+    fn parse_entry(place: Place, entry: [u8; 16]) -> Shown {
+        let Entry {
+            code,
+            settings,
+            on,
+            off,
+            speed,
+            reading,
+            limits,
+        } = Entry::parse(entry);
+        match place {
+            Place::Overall => Shown::Overall { code },
+            Place::Individual(Kind::Cooling) => Shown::Cooling {
+                code,
+                settings,
+                on,
+                off,
+                speed,
+                reading: u16::from_be_bytes(reading),
+            },
+            Place::Individual(Kind::Temperature) => {
+                let [_, reading] = reading;
+                Shown::Temperature {
+                    code,
+                    settings,
+                    reading,
+                    limits,
+                }
+            }
+            Place::Individual(Kind::Voltage) => Shown::Voltage {
+                code,
+                settings,
+                reading: i16::from_be_bytes(reading),
+                limits,
+            },
+            Place::Individual(Kind::Current) => Shown::Current {
+                code,
+                settings,
+                reading: i16::from_be_bytes(reading),
+                limits: Limits {
+                    warning_under: false,
+                    critical_under: false,
+                    ..limits
+                },
+            },
+        }
+    }
+
+    /// The sixteen bytes in a status record.
+    pub fn entry(&self) -> [u8; 16] {
+        let entry = match *self {
+            Shown::Overall { code } => Entry {
+                code,
+                ..Entry::default()
+            },
+            Shown::Cooling {
+                code,
+                settings,
+                on,
+                off,
+                speed,
+                reading,
+            } => Entry {
+                code,
+                settings,
+                on,
+                off,
+                speed,
+                reading: reading.to_be_bytes(),
+                ..Entry::default()
+            },
+            Shown::Temperature {
+                code,
+                settings,
+                reading,
+                limits,
+            } => Entry {
+                code,
+                settings,
+                reading: u16::from(reading).to_be_bytes(),
+                limits,
+                ..Entry::default()
+            },
+            Shown::Voltage {
+                code,
+                settings,
+                reading,
+                limits,
+            }
+            | Shown::Current {
+                code,
+                settings,
+                reading,
+                limits,
+            } => Entry {
+                code,
+                settings,
+                reading: reading.to_be_bytes(),
+                limits,
+                ..Entry::default()
+            },
+        };
+        entry.bytes()
+    }
+}
+
+fn byte0(code: u8, settings: Settings) -> u8 {
+    flag(settings.prdfail, 6) + flag(settings.disabled, 5) + flag(settings.swap, 4) + code
+}
+
+/// The fields of a record's entry, whatever the place.
+#[derive(Default)]
+struct Entry {
+    code: u8,
+    settings: Settings,
+    on: bool,
+    off: bool,
+    speed: u8,
+    reading: [u8; 2],
+    limits: Limits,
+}
+
+impl Entry {
+    /// A flag is set if its byte is 1.
+    fn parse(bytes: [u8; 16]) -> Entry {
+        let [code, settings @ .., on, off, speed, _, upper, lower, critical_over, warning_over, warning_under, critical_under] =
+            bytes;
+        let [prdfail, disabled, swap, ident, fail] = settings.map(is_one);
+        Entry {
+            code,
+            settings: Settings {
+                prdfail,
+                disabled,
+                swap,
+                ident,
+                fail,
+            },
+            on: is_one(on),
+            off: is_one(off),
+            speed,
+            reading: [upper, lower],
+            limits: Limits {
+                critical_over: is_one(critical_over),
+                warning_over: is_one(warning_over),
+                warning_under: is_one(warning_under),
+                critical_under: is_one(critical_under),
+            },
+        }
+    }
+
+    fn bytes(&self) -> [u8; 16] {
+        let [upper, lower] = self.reading;
+        [
+            self.code,
+            self.settings.prdfail.into(),
+            self.settings.disabled.into(),
+            self.settings.swap.into(),
+            self.settings.ident.into(),
+            self.settings.fail.into(),
+            self.on.into(),
+            self.off.into(),
+            self.speed,
+            0,
+            upper,
+            lower,
+            self.limits.critical_over.into(),
+            self.limits.warning_over.into(),
+            self.limits.warning_under.into(),
+            self.limits.critical_under.into(),
+        ]
+    }
+}
+
+fn is_one(byte: u8) -> bool {
+    byte == 1
+}

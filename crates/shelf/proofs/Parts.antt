@@ -1,17 +1,21 @@
--- What the front of a well-formed shelf has, part by part. Assumes nothing.
+-- What a well-formed shelf has, part by part: its front, and each element. Assumes nothing.
 use mathlib.Core.Path.{_≡_, sym, _∙_}
 use mathlib.Core.Bool.{Bool, true, _&&_}
 use mathlib.Core.List.{List}
 use Prim.Native.Nat.{ℕ, _+_, _<_, _≤_}
 use native.Mathlib.Omega.{arith}
 use lib.Dec.{eqb, leb}
-use lib.ListN.{getD}
+use lib.ListN.{length, getD}
 use borrow.Author.Tests.{leb-true, eqb-true, lt-ltb, le-ltb}
+use Rattle.bits.specs.Choice.{allBelow}
 use Rattle.bits.proofs.Logic.{and-left, and-right, below-at, pick-yes, pick-no}
-use Rattle.kinds.specs.Types.{served}
-use Rattle.shelf.specs.Limits.{mostTypes, mostElements, mostInType, mostText, typeSize, typePlace, textPlace}
-use Rattle.shelf.specs.Types.{typesOf, typeCode, typeCount, textLength, elementsOf}
-use Rattle.shelf.specs.Formed.{headFormed, textByteFormed, textFormed, typeFormed, typeByteEmpty, typeEmpty, slotFormed, typesFormed, frontFormed}
+use Rattle.kinds.specs.Types.{served, readingAllowed, nominalAllowed}
+use Rattle.kinds.specs.Settings.{settingsFormed}
+use Rattle.verdicts.specs.Thresholds.{had, ordered}
+use Rattle.shelf.specs.Limits.{mostTypes, mostElements, mostInType, mostText, typeSize, typePlace, textPlace, elementPlace}
+use Rattle.shelf.specs.Types.{typesOf, typeCode, typeCount, textLength, elementsOf, kindAt}
+use Rattle.shelf.specs.Elements.{settingsAt, thresholdsAt, readingAt, nominalAt}
+use Rattle.shelf.specs.Formed.{headFormed, textByteFormed, textFormed, typeFormed, typeByteEmpty, typeEmpty, slotFormed, typesFormed, spareClear, elementFormed, elementsFormed, frontFormed, wellFormed}
 
 -- four and five tests that hold together
 four : (a b c d : Bool) → ((a && b) && c) && d ≡ true → (a ≡ true) × (b ≡ true) × (c ≡ true) × (d ≡ true)
@@ -81,3 +85,21 @@ module _ (s : List ℕ) (w : frontFormed s ≡ true) where
   type-clear t i h l m =
       eqb-true (getD s (typePlace t + i) 0) 0
       (below-at (typeByteEmpty s t) typeSize (sym (pick-no _ _ _ (le-ltb t (typesOf s) h)) ∙ slot t l) i m)
+
+-- what a well-formed shelf has of element j
+pub in-element : (s : List ℕ) → wellFormed s ≡ true → (j : ℕ) → j < elementsOf s
+    → (settingsFormed (kindAt s j) (settingsAt s j) ≡ true)
+    × (had (kindAt s j) (thresholdsAt s j) ≡ true)
+    × (ordered (kindAt s j) (thresholdsAt s j) ≡ true)
+    × (readingAllowed (kindAt s j) (readingAt s j) ≡ true)
+    × (nominalAllowed (kindAt s j) (nominalAt s j) ≡ true)
+unfolding wellFormed elementsFormed elementFormed
+in-element s w j l =
+    let k = kindAt s j in
+    let a = settingsFormed k (settingsAt s j) in
+    let b = had k (thresholdsAt s j) in
+    let c = ordered k (thresholdsAt s j) in
+    let d = readingAllowed k (readingAt s j) in
+    let e = nominalAllowed k (nominalAt s j) in
+    let all = and-right (frontFormed s && eqb (length s) (elementPlace (elementsOf s))) (allBelow (elementFormed s) (elementsOf s)) w in
+    five a b c d e (and-left ((((a && b) && c) && d) && e) (spareClear s j) (below-at (elementFormed s) (elementsOf s) all j l))

@@ -1,31 +1,32 @@
 -- The status page of a well-formed shelf is accepted under the shelf's configuration, and shows what the shelf shows. Assumes nothing.
 use mathlib.Core.Path.{_≡_, refl, sym, ap, _∙_}
-use mathlib.Core.Bool.{Bool, true, false, not, _&&_}
+use mathlib.Core.Bool.{Bool, true, false, not}
 use mathlib.Core.List.{List, [], _∷_, _++_}
 use Prim.Native.Nat.{ℕ, _+_, _-_, _<_, _≤_}
 use native.Mathlib.Omega.{arith}
-use lib.Dec.{eqb}
-use lib.ListN.{length, getD}
+use lib.ListN.{getD}
 use borrow.Author.Tests.{eq-eqb, le-ltb}
-use Rattle.bits.specs.Choice.{pick, allBelow}
+use Rattle.bits.specs.Choice.{pick}
 use Rattle.bits.specs.Bits.{only, nibble, bit}
 use Rattle.bits.specs.Places.{fourAt}
-use Rattle.bits.proofs.Logic.{by-case, pick-yes, pick-no, and-left, and-right, below-at, below-all, fails}
+use Rattle.bits.proofs.Logic.{by-case, pick-yes, pick-no, below-all, fails}
 use Rattle.bits.proofs.Halves.{nibble-bits}
 use Rattle.bits.proofs.Widths.{Bytes}
 use Rattle.bits.proofs.Rows.{joined-same}
 use Rattle.kinds.specs.declared.types.Kind.{Kind}
-use Rattle.kinds.specs.Types.{readingAllowed, nominalAllowed}
-use Rattle.kinds.specs.Settings.{settingsOf, settingsFormed}
+use Rattle.kinds.specs.Types.{readingAllowed}
+use Rattle.kinds.specs.Settings.{settingsOf}
 use Rattle.kinds.proofs.Back.{settings-storable}
-use Rattle.verdicts.specs.Thresholds.{had, ordered}
+use Rattle.verdicts.specs.Verdict.{verdictOf}
 use Rattle.refusals.specs.declared.Answer.the-variants.{Accepted}
 use Rattle.shelf.specs.Limits.{mostTypes, mostElements, elementPlace}
-use Rattle.shelf.specs.Types.{elementsOf, kindAt}
+use Rattle.shelf.specs.Types.{kindAt}
 use Rattle.shelf.specs.Elements.{settingsAt, thresholdsAt, readingAt, nominalAt}
-use Rattle.shelf.specs.Formed.{elementFormed, elementsFormed, spareClear, frontFormed, wellFormed}
+use Rattle.shelf.specs.Formed.{frontFormed, wellFormed}
 use Rattle.shelf.proofs.Typed.{front-formed}
+use Rattle.shelf.proofs.Parts.{in-element}
 use Rattle.shelf.proofs.Front.{front, configuration-of}
+use Rattle.shown.specs.declared.Shown.{Shown}
 use Rattle.shown.specs.Status.{codeAllowed, shownBy, shownOf, statusBytes, offending, overallOffending, codeAlone, showable}
 use Rattle.shown.proofs.Back.{four-pass, shown-back, by-showable, shown-clear}
 use Rattle.pages.specs.declared.slots.Slot.{Slot}
@@ -92,18 +93,6 @@ module _ (s : List ℕ) (hs : Bytes s) (w : wellFormed s ≡ true) where
   few : slotsOf s ≤ mostTypes + mostElements
   few = slots-bound s f
 
-  formed : (j : ℕ) → j < elementsOf s → readingAllowed (kindAt s j) (readingAt s j) ≡ true
-  unfolding wellFormed elementsFormed elementFormed
-  formed j l =
-      let k = kindAt s j in
-      let a = settingsFormed k (settingsAt s j) in
-      let b = had k (thresholdsAt s j) in
-      let c = ordered k (thresholdsAt s j) in
-      let d = readingAllowed k (readingAt s j) in
-      let e = nominalAllowed k (nominalAt s j) in
-      let q = below-at (elementFormed s) (elementsOf s) (and-right (frontFormed s && eqb (length s) (elementPlace (elementsOf s))) (allBelow (elementFormed s) (elementsOf s)) w) j l in
-      and-right ((a && b) && c) d (and-left (((a && b) && c) && d) e (and-left ((((a && b) && c) && d) && e) (spareClear s j) q))
-
   reading-small : (j : ℕ) → readingAt s j < 65536
   unfolding readingAt
   reading-small j = omega (arith, byte-small s hs (elementPlace j + 8), byte-small s hs (elementPlace j + 8 + 1))
@@ -112,31 +101,31 @@ module _ (s : List ℕ) (hs : Bytes s) (w : wellFormed s ≡ true) where
     abbrev at : Slot
     at = slotAt s i
 
-    in-overall : at .overall ≡ true → shownIn s i ≡ codeAlone (worst s (at .kind) (at .first) (at .end))
+    shows-overall : at .overall ≡ true → shownIn s i ≡ codeAlone (worst s (at .kind) (at .first) (at .end))
     unfolding shownIn
-    in-overall o = pick-yes _ _ _ o
+    shows-overall o = pick-yes _ _ _ o
 
-    in-element : at .overall ≡ false → shownIn s i ≡ shownAt s (at .kind) (at .first)
+    shows-element : at .overall ≡ false → shownIn s i ≡ shownAt s (at .kind) (at .first)
     unfolding shownIn
-    in-element o = pick-no _ _ _ o
+    shows-element o = pick-no _ _ _ o
 
     -- what an individual slot shows can be shown
     element-showable : at .overall ≡ false → showable (at .kind) (shownIn s i) ≡ true
     unfolding shownAt
     element-showable o =
         let j = at .first in
-        ap (showable (at .kind)) (in-element o)
+        ap (showable (at .kind)) (shows-element o)
         ∙ by-showable (at .kind) (settingsOf (at .kind) (settingsAt s j)) (readingAt s j) (nominalAt s j) (thresholdsAt s j)
         (settings-storable (at .kind) (settingsAt s j))
-        (ap (λ (k : Kind). readingAllowed k (readingAt s j)) (sym (kind-first s f i l o)) ∙ formed j (first-there s f i l o))
+        (ap (λ (k : Kind). readingAllowed k (readingAt s j)) (sym (kind-first s f i l o)) ∙ in-element s w j (first-there s f i l o) .3)
 
     element-small : at .overall ≡ false → shownIn s i .reading < 65536
     unfolding shownAt shownBy
-    element-small o = rw (in-element o) (reading-small (at .first))
+    element-small o = rw (shows-element o) (reading-small (at .first))
 
     row-overall : at .overall ≡ true → slotRow s (shownIn s) i ≡ worst s (at .kind) (at .first) (at .end) ∷ 0 ∷ 0 ∷ 0 ∷ []
     unfolding slotBytes
-    row-overall o = pick-yes _ _ _ o ∙ rw (in-overall o)
+    row-overall o = pick-yes _ _ _ o ∙ rw (shows-overall o)
 
     row-element : at .overall ≡ false → slotRow s (shownIn s) i ≡ statusBytes (at .kind) (shownIn s i)
     unfolding slotBytes
@@ -164,8 +153,16 @@ module _ (s : List ℕ) (hs : Bytes s) (w : wellFormed s ≡ true) where
         let g : getD (statusPage s) (slotPlace i) 0 ≡ getD (slotRow s (shownIn s) i) 0 0 = ap (λ (e : List ℕ). getD e 0 0) on-page in
         rw (slot-same s f i l)
         (by-case (at .overall)
-        (λ o. pick-yes _ _ _ o ∙ ap codeAlone (g ∙ ap (λ (e : List ℕ). getD e 0 0) (row-overall o)) ∙ sym (in-overall o))
+        (λ o. pick-yes _ _ _ o ∙ ap codeAlone (g ∙ ap (λ (e : List ℕ). getD e 0 0) (row-overall o)) ∙ sym (shows-overall o))
         (λ o. pick-no _ _ _ o ∙ ap (shownOf (at .kind)) (on-page ∙ row-element o) ∙ shown-back (at .kind) (shownIn s i) (element-small o) (element-showable o)))
+
+    -- the verdict that an individual element shows follows from what the shelf stores of it
+    pub told-verdict : at .overall ≡ false
+        → let j : ℕ = at .first in
+        slotShown (front s) (statusPage s) i .verdict
+        ≡ verdictOf (kindAt s j) (settingsOf (kindAt s j) (settingsAt s j) .on) (readingAt s j) (nominalAt s j) (thresholdsAt s j)
+    unfolding shownAt shownBy
+    told-verdict o = rw (kind-first s f i l o) (ap (λ (x : Shown). x .verdict) (shown-told ∙ shows-element o))
 
   own : getD (statusPage s) 1 0 ≡ bitsByte (pageBits s)
   unfolding statusPage pageWith header

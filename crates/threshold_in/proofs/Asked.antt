@@ -10,7 +10,7 @@ use Rattle.bits.specs.Choice.{pick}
 use Rattle.bits.specs.Rows.{bytesAt, putBytes}
 use Rattle.bits.proofs.Rows.{put-next, bytes-next, length-bytes-at}
 use Rattle.refusals.specs.declared.Refusal.{Refusal}
-use Rattle.refusals.specs.declared.Refusal.the-variants.{ShelfNotWellFormed, NotAllowed, NoSuchThreshold, ThresholdOrder, WantedList}
+use Rattle.refusals.specs.declared.Refusal.the-variants.{ShelfNotWellFormed, NotAllowed, WantedList}
 use Rattle.refusals.specs.declared.Answer.{Answer}
 use Rattle.refusals.specs.declared.Answer.the-variants as answer
 use Rattle.refusals.specs.declared.Written.{Written}
@@ -24,30 +24,10 @@ use Rattle.pages.specs.Header as pages
 use Rattle.pages.proofs.Headed.{head-put}
 use Rattle.pages.proofs.Filled.{length-header}
 use Rattle.pages.proofs.Fitted.{fits-bytes, page-fits, page-out}
-use Rattle.threshold_in.specs.Rows.{onPage, inRecord, rowPlace, offence, allHad, allOrdered, rowsAsked}
+use Rattle.threshold_rows.specs.Rows.{onPage, inRecord, rowPlace, rowsAsked}
 use Rattle.threshold_in.specs.Page.{thresholdRow, thresholdPage}
 use Rattle.threshold_in.specs.Read.{recordHead, headPut, thresholdRead, thresholdRecord}
 use Rattle.threshold_in.specs.Again.{entriesIn, recordAsked, pageAgain}
-
--- the tests of all rows
-module _ (c b : List ℕ) (k n : ℕ) {x m : ℕ} (p : x ≡ offence c b k n) (q : m ≡ rowPlace k n) where
-  pub refused-byte : eqb x m ≡ false → answer.Refused NotAllowed ≡ rowsAsked c b k n
-  unfolding rowsAsked
-  refused-byte e = rw (← p, ← q, e)
-
-  module _ (e : eqb x m ≡ true) where
-    pub not-had : allHad c b k n ≡ false → answer.Refused NoSuchThreshold ≡ rowsAsked c b k n
-    unfolding rowsAsked
-    not-had h = rw (← p, ← q, e, h)
-
-    module _ (h : allHad c b k n ≡ true) where
-      pub not-ordered : allOrdered c b k n ≡ false → answer.Refused ThresholdOrder ≡ rowsAsked c b k n
-      unfolding rowsAsked
-      not-ordered o = rw (← p, ← q, e, h, o)
-
-      pub rows-passed : allOrdered c b k n ≡ true → answer.Accepted ≡ rowsAsked c b k n
-      unfolding rowsAsked
-      rows-passed o = rw (← p, ← q, e, h, o)
 
 pub row-length : (s : List ℕ) (i : ℕ) → length (thresholdRow s i) ≡ 4
 unfolding thresholdRow thresholdsAt

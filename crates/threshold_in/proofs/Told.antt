@@ -1,27 +1,25 @@
 -- The Threshold In page of a well-formed shelf is accepted under the shelf's configuration, and hands back the shelf's thresholds. Assumes nothing.
 use mathlib.Core.Path.{_≡_, refl, sym, ap, _∙_}
-use mathlib.Core.Bool.{true, false, _&&_}
+use mathlib.Core.Bool.{true, false}
 use mathlib.Core.List.{List, [], _∷_, _++_}
 use Prim.Native.Nat.{ℕ, _+_, _*_, _<_, _≤_}
 use native.Mathlib.Omega.{arith}
 use lib.Dec.{eqb, ltb}
-use lib.ListN.{length, getD, take}
+use lib.ListN.{getD, take}
 use lib.Seq.{drop-at, take-all}
-use Rattle.bits.specs.Choice.{pick, allBelow}
+use Rattle.bits.specs.Choice.{pick}
 use Rattle.bits.specs.Rows.{joined, bytesAt}
-use Rattle.bits.proofs.Logic.{by-case, pick-yes, pick-no, and-left, and-right, below-at}
+use Rattle.bits.proofs.Logic.{by-case, pick-yes, pick-no}
 use Rattle.bits.proofs.Rows.{length-joined, bytes-there}
 use Rattle.kinds.specs.declared.types.Kind.{Kind}
 use Rattle.kinds.specs.declared.types.Kind.the-variants.{Cooling, Temperature, Voltage, Current}
-use Rattle.kinds.specs.Types.{readingAllowed, nominalAllowed}
-use Rattle.kinds.specs.Settings.{settingsFormed}
 use Rattle.verdicts.specs.Thresholds.{had, ordered}
 use Rattle.refusals.specs.declared.Answer.the-variants.{Accepted}
-use Rattle.shelf.specs.Limits.{mostTypes, mostElements, elementPlace}
-use Rattle.shelf.specs.Types.{elementsOf, kindAt}
-use Rattle.shelf.specs.Elements.{settingsAt, thresholdsAt, readingAt, nominalAt}
-use Rattle.shelf.specs.Formed.{elementFormed, elementsFormed, spareClear, frontFormed, wellFormed}
+use Rattle.shelf.specs.Limits.{mostTypes, mostElements}
+use Rattle.shelf.specs.Elements.{thresholdsAt}
+use Rattle.shelf.specs.Formed.{frontFormed, wellFormed}
 use Rattle.shelf.proofs.Typed.{front-formed}
+use Rattle.shelf.proofs.Parts.{in-element}
 use Rattle.shelf.proofs.Front.{front, configuration-of}
 use Rattle.pages.specs.declared.slots.Slot.{Slot}
 use Rattle.pages.specs.Slots.{slotsOf, slotAt}
@@ -30,11 +28,11 @@ use Rattle.pages.proofs.Bounds.{slots-bound}
 use Rattle.pages.proofs.Filled.{slot-read, length-header, length-page}
 use Rattle.pages.proofs.Fronted.{slots-same, header-same, slot-same, first-there, kind-first}
 use Rattle.pages.proofs.HeadAgain.{head-written}
-use Rattle.threshold_in.specs.Rows.{onPage, rowAt, firstSet, rowOffending, rowHad, rowOrdered}
+use Rattle.threshold_rows.specs.Rows.{onPage, rowAt, firstSet, rowOffending, rowHad, rowOrdered}
 use Rattle.threshold_in.specs.Page.{thresholdRow, thresholdPage}
 use Rattle.threshold_in.specs.Read.{recordHead, thresholdRead, thresholdRecord}
 use Rattle.threshold_in.proofs.Asked.{row-length, slots-asked}
-use Rattle.threshold_in.proofs.Back.{Fine, fine-rows}
+use Rattle.threshold_rows.proofs.Asked.{Fine, fine-rows}
 
 abbrev fourZeros : List ℕ
 fourZeros = 0 ∷ 0 ∷ 0 ∷ 0 ∷ []
@@ -76,22 +74,6 @@ module _ (s : List ℕ) (w : wellFormed s ≡ true) where
   unfolding thresholdPage header
   own = refl
 
-  -- an element's thresholds are its type's
-  formed : (j : ℕ) → j < elementsOf s → (had (kindAt s j) (thresholdsAt s j) ≡ true) × (ordered (kindAt s j) (thresholdsAt s j) ≡ true)
-  unfolding wellFormed elementsFormed elementFormed
-  formed j l =
-      let k = kindAt s j in
-      let a = settingsFormed k (settingsAt s j) in
-      let b = had k (thresholdsAt s j) in
-      let c = ordered k (thresholdsAt s j) in
-      let d = readingAllowed k (readingAt s j) in
-      let e = nominalAllowed k (nominalAt s j) in
-      let n = elementsOf s in
-      let all = and-right (frontFormed s && eqb (length s) (elementPlace n)) (allBelow (elementFormed s) n) w in
-      let q = below-at (elementFormed s) n all j l in
-      let t = and-left ((a && b) && c) d (and-left (((a && b) && c) && d) e (and-left ((((a && b) && c) && d) && e) (spareClear s j) q)) in
-      (and-right a b (and-left (a && b) c t), and-right (a && b) c t)
-
   module _ (i : ℕ) (l : i < slotsOf s) where
     abbrev at : Slot
     at = slotAt s i
@@ -109,14 +91,14 @@ module _ (s : List ℕ) (w : wellFormed s ≡ true) where
         by-case (at .overall)
         (λ o. ap (had (at .kind)) (row-overall o) ∙ zeros-had (at .kind))
         (λ o. ap (had (at .kind)) (row-element o) ∙ ap (λ (k : Kind). had k (thresholdsAt s (at .first))) (sym (kind-first s f i l o))
-        ∙ formed (at .first) (first-there s f i l o) .0)
+        ∙ in-element s w (at .first) (first-there s f i l o) .1)
 
     row-ordered : ordered (at .kind) (thresholdRow s i) ≡ true
     row-ordered =
         by-case (at .overall)
         (λ o. ap (ordered (at .kind)) (row-overall o) ∙ zeros-ordered (at .kind))
         (λ o. ap (ordered (at .kind)) (row-element o) ∙ ap (λ (k : Kind). ordered k (thresholdsAt s (at .first))) (sym (kind-first s f i l o))
-        ∙ formed (at .first) (first-there s f i l o) .1)
+        ∙ in-element s w (at .first) (first-there s f i l o) .2)
 
     row-clear : pick (at .overall) (firstSet (thresholdRow s i)) 4 ≡ 4
     row-clear =

@@ -11,7 +11,7 @@ use Rattle.refusals.specs.Outcomes.{unless}
 use Rattle.shelf.specs.Formed.{configurationFormed}
 use Rattle.pages.specs.Slots.{slotsOf}
 use Rattle.pages.specs.Header.{header}
-use Rattle.threshold_in.specs.Rows.{inRecord, rowsAsked}
+use Rattle.threshold_rows.specs.Rows.{inRecord, rowsAsked}
 
 abbrev pub entriesIn : List ℕ → ℕ
 entriesIn r = big (twoAt r 2)

@@ -1,4 +1,3 @@
-pub mod Rows
 pub mod Page
 pub mod Read
 pub mod Again

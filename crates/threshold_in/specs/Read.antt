@@ -12,7 +12,7 @@ use Rattle.refusals.specs.Outcomes.{unless, next}
 use Rattle.shelf.specs.Formed.{configurationFormed}
 use Rattle.pages.specs.Slots.{slotsOf}
 use Rattle.pages.specs.Header.{headed}
-use Rattle.threshold_in.specs.Rows.{onPage, rowsAsked}
+use Rattle.threshold_rows.specs.Rows.{onPage, rowsAsked}
 
 -- 1: no configuration; 2 to 5: the header; 6: byte 1 is not zero; 6, 7, 8: the slots
 unfoldable pub thresholdRead : List ℕ → List ℕ → Answer

@@ -1,7 +1,6 @@
 // The page written again from the record that a reader handed back.
 use crate::page;
 use crate::reading;
-use crate::rows;
 use pages::header;
 use pages::slots;
 use refusals::Answer;
@@ -25,7 +24,7 @@ pub fn write(configuration: &[u8], fields: &[u8; reading::LENGTH], out: &mut [u8
     if bits::big16_at(fields, 2) != n {
         return Written::Refused(Refusal::WantedList);
     }
-    let tested = rows::test(configuration, fields, rows::IN_RECORD, n);
+    let tested = threshold_rows::test(configuration, fields, threshold_rows::IN_RECORD, n);
     if let Answer::Refused(refusal) = tested {
         return Written::Refused(refusal);
     }
@@ -36,9 +35,9 @@ pub fn write(configuration: &[u8], fields: &[u8; reading::LENGTH], out: &mut [u8
     header::put(configuration, out, page::CODE, 0, n);
     bits::copy(
         fields,
-        rows::IN_RECORD as u32,
+        threshold_rows::IN_RECORD as u32,
         out,
-        rows::ON_PAGE as u32,
+        threshold_rows::ON_PAGE as u32,
         4 * n as u32,
     );
     fit

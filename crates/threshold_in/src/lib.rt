@@ -2,4 +2,3 @@
 pub mod again;
 pub mod page;
 pub mod reading;
-pub mod rows;

@@ -1,6 +1,5 @@
 // The page read, under a configuration.
 use crate::page;
-use crate::rows;
 use pages::header;
 use refusals::Answer;
 use refusals::Refusal;
@@ -37,16 +36,16 @@ pub fn read(configuration: &[u8], page: &[u8], fields: &mut [u8; LENGTH]) -> Ans
     if bits::byte_at(page, 1) != 0 {
         return Answer::Refused(Refusal::NotAllowed);
     }
-    let tested = rows::test(configuration, page, rows::ON_PAGE, n);
+    let tested = threshold_rows::test(configuration, page, threshold_rows::ON_PAGE, n);
     let Answer::Accepted = tested else {
         return tested;
     };
     put_head(fields, n);
     bits::copy(
         page,
-        rows::ON_PAGE as u32,
+        threshold_rows::ON_PAGE as u32,
         fields,
-        rows::IN_RECORD as u32,
+        threshold_rows::IN_RECORD as u32,
         4 * n as u32,
     );
     Answer::Accepted

@@ -1,9 +1,9 @@
--- `threshold_in::rows::row_offending` meets its contract. Assumes nothing.
+-- `threshold_rows::row_offending` meets its contract. Assumes nothing.
 use denote.Ref.{now}
-use Rattle.threshold_in.proofs.Turned.{offends-overall, offends-element}
+use Rattle.threshold_rows.proofs.Turned.{offends-overall, offends-element}
 use borrow.Author.Needs.{needs}
-use Rattle.threshold_in.proofs.rows.row_offending.Statement.{statement}
-use Rattle.threshold_in.proofs.rows.row_offending.Tie as tie
+use Rattle.threshold_rows.proofs.row_offending.Statement.{statement}
+use Rattle.threshold_rows.proofs.row_offending.Tie as tie
 
 slot-at-requires : tie.Need-slot-at-requires
 slot-at-requires c κs = search needs

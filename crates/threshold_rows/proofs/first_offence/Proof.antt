@@ -1,4 +1,4 @@
--- `threshold_in::rows::first_offence` meets its contract. Assumes nothing.
+-- `threshold_rows::first_offence` meets its contract. Assumes nothing.
 use mathlib.Core.Path.{_≡_, refl, ap}
 use Prim.Native.Nat.{_-_, _≤_}
 use native.Mathlib.Omega.{arith}
@@ -8,10 +8,10 @@ use mathlib.Core.Bool.{true, not}
 use borrow.Author.Tests.{le-ltb}
 use Rattle.bits.specs.Choice.{allBelow}
 use Rattle.bits.proofs.Logic.{fails, below-next}
-use Rattle.threshold_in.specs.Rows.{rowOffending, rowRefused}
-use Rattle.threshold_in.proofs.Turned.{row-refused, none-refused}
-use Rattle.threshold_in.proofs.rows.first_offence.Statement.{statement}
-use Rattle.threshold_in.proofs.rows.first_offence.Tie as tie
+use Rattle.threshold_rows.specs.Rows.{rowOffending, rowRefused}
+use Rattle.threshold_rows.proofs.Turned.{row-refused, none-refused}
+use Rattle.threshold_rows.proofs.first_offence.Statement.{statement}
+use Rattle.threshold_rows.proofs.first_offence.Tie as tie
 
 abbrev Inv-loop : tie.InvT-loop
 Inv-loop configuration block start n i₀ i = (i ≤ n) × (allBelow (fails (rowRefused configuration block start)) i ≡ true)

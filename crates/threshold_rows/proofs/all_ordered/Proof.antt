@@ -1,4 +1,4 @@
--- `threshold_in::rows::all_ordered` meets its contract. Assumes nothing.
+-- `threshold_rows::all_ordered` meets its contract. Assumes nothing.
 use mathlib.Core.Path.{_≡_, refl, sym, _∙_}
 use Prim.Native.Nat.{_-_, _≤_}
 use native.Mathlib.Omega.{arith}
@@ -8,9 +8,9 @@ use mathlib.Core.Bool.{true}
 use borrow.Author.Tests.{not-true, not-false}
 use Rattle.bits.specs.Choice.{allBelow}
 use Rattle.bits.proofs.Logic.{below-fails, below-next}
-use Rattle.threshold_in.specs.Rows.{rowOrdered, allOrdered}
-use Rattle.threshold_in.proofs.rows.all_ordered.Statement.{statement}
-use Rattle.threshold_in.proofs.rows.all_ordered.Tie as tie
+use Rattle.threshold_rows.specs.Rows.{rowOrdered, allOrdered}
+use Rattle.threshold_rows.proofs.all_ordered.Statement.{statement}
+use Rattle.threshold_rows.proofs.all_ordered.Tie as tie
 
 abbrev Inv-loop : tie.InvT-loop
 Inv-loop configuration block start n i₀ i = (i ≤ n) × (allBelow (rowOrdered configuration block start) i ≡ true)

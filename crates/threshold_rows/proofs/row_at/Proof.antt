@@ -1,10 +1,10 @@
--- `threshold_in::rows::row_at` meets its contract. Assumes nothing.
+-- `threshold_rows::row_at` meets its contract. Assumes nothing.
 use mathlib.Core.Path.{ap, _∙_}
 use denote.Ref.{now}
 use Rattle.bits.specs.Places.{fourAt}
 use borrow.Author.Needs.{needs}
-use Rattle.threshold_in.proofs.rows.row_at.Statement.{statement}
-use Rattle.threshold_in.proofs.rows.row_at.Tie as tie
+use Rattle.threshold_rows.proofs.row_at.Statement.{statement}
+use Rattle.threshold_rows.proofs.row_at.Tie as tie
 
 row-place-requires : tie.Need-row-place-requires
 row-place-requires c κs = search needs

@@ -1,9 +1,9 @@
--- `threshold_in::rows::row_had` meets its contract. Assumes nothing.
+-- `threshold_rows::row_had` meets its contract. Assumes nothing.
 use denote.Ref.{now}
-use Rattle.threshold_in.proofs.Turned.{row-had}
+use Rattle.threshold_rows.proofs.Turned.{row-had}
 use borrow.Author.Needs.{needs}
-use Rattle.threshold_in.proofs.rows.row_had.Statement.{statement}
-use Rattle.threshold_in.proofs.rows.row_had.Tie as tie
+use Rattle.threshold_rows.proofs.row_had.Statement.{statement}
+use Rattle.threshold_rows.proofs.row_had.Tie as tie
 
 slot-at-requires : tie.Need-slot-at-requires
 slot-at-requires c κs = search needs

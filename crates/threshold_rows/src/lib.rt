@@ -6,7 +6,7 @@ use refusals::Answer;
 use refusals::Refusal;
 use verdicts::thresholds;
 ghost use mathlib.Core.Path.{_≡_};
-ghost use Rattle.threshold_in.specs.Rows.{rowPlace, rowAt, firstSet, rowOffending, offence, rowHad, allHad, rowOrdered, allOrdered, rowsAsked};
+ghost use Rattle.threshold_rows.specs.Rows.{rowPlace, rowAt, firstSet, rowOffending, offence, rowHad, allHad, rowOrdered, allOrdered, rowsAsked};
 
 // Where the rows start.
 pub const ON_PAGE: u16 = 8;

@@ -1,11 +1,11 @@
--- `threshold_in::rows::test` meets its contract. Assumes nothing.
+-- `threshold_rows::test` meets its contract. Assumes nothing.
 use mathlib.Core.Path.{sym, _∙_}
 use denote.Ref.{now}
 use borrow.Author.Tests.{eq-eqb, ne-eqb, not-true, not-false}
-use Rattle.threshold_in.proofs.Asked.{refused-byte, not-had, not-ordered, rows-passed}
+use Rattle.threshold_rows.proofs.Asked.{refused-byte, not-had, not-ordered, rows-passed}
 use borrow.Author.Needs.{needs}
-use Rattle.threshold_in.proofs.rows.test.Statement.{statement}
-use Rattle.threshold_in.proofs.rows.test.Tie as tie
+use Rattle.threshold_rows.proofs.test.Statement.{statement}
+use Rattle.threshold_rows.proofs.test.Tie as tie
 
 first-offence-requires : tie.Need-first-offence-requires
 first-offence-requires c κs = search needs

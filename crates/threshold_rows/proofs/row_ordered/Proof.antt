@@ -1,9 +1,9 @@
--- `threshold_in::rows::row_ordered` meets its contract. Assumes nothing.
+-- `threshold_rows::row_ordered` meets its contract. Assumes nothing.
 use denote.Ref.{now}
-use Rattle.threshold_in.proofs.Turned.{row-ordered}
+use Rattle.threshold_rows.proofs.Turned.{row-ordered}
 use borrow.Author.Needs.{needs}
-use Rattle.threshold_in.proofs.rows.row_ordered.Statement.{statement}
-use Rattle.threshold_in.proofs.rows.row_ordered.Tie as tie
+use Rattle.threshold_rows.proofs.row_ordered.Statement.{statement}
+use Rattle.threshold_rows.proofs.row_ordered.Tie as tie
 
 slot-at-requires : tie.Need-slot-at-requires
 slot-at-requires c κs = search needs

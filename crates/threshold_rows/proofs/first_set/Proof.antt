@@ -1,10 +1,10 @@
--- `threshold_in::rows::first_set` meets its contract. Assumes nothing.
+-- `threshold_rows::first_set` meets its contract. Assumes nothing.
 use lib.ListN.{getD}
 use borrow.Author.Tests.{eq-eqb, ne-eqb}
-use Rattle.threshold_in.specs.Rows.{firstSet}
+use Rattle.threshold_rows.specs.Rows.{firstSet}
 use borrow.Author.Needs.{needs}
-use Rattle.threshold_in.proofs.rows.first_set.Statement.{statement}
-use Rattle.threshold_in.proofs.rows.first_set.Tie as tie
+use Rattle.threshold_rows.proofs.first_set.Statement.{statement}
+use Rattle.threshold_rows.proofs.first_set.Tie as tie
 
 array-read-if1 : tie.Need-array-read-if1
 array-read-if1 c = search needs

@@ -1,0 +1,87 @@
+-- The tests of all rows one after the other, and what they say of each row. Assumes nothing.
+use mathlib.Core.Path.{_≡_, refl, sym, ap, _∙_}
+use mathlib.Core.Bool.{true, false, not}
+use mathlib.Core.List.{List}
+use Prim.Native.Nat.{ℕ, _+_, _<_}
+use native.Mathlib.Omega.{arith}
+use lib.Dec.{eqb, ltb}
+use Rattle.bits.specs.Choice.{pick, firstBelow}
+use Rattle.refusals.specs.declared.Refusal.the-variants.{NotAllowed, NoSuchThreshold, ThresholdOrder}
+use Rattle.refusals.specs.declared.Answer.{Answer}
+use Rattle.refusals.specs.Outcomes.{unless}
+use Rattle.pages.specs.Slots.{slotAt}
+use Rattle.threshold_rows.proofs.Turned.{none-refused}
+use Rattle.threshold_rows.specs.Rows.{rowPlace, offence, allHad, allOrdered, rowsAsked, rowAt, firstSet, rowOffending, rowRefused, rowHad, rowOrdered}
+use borrow.Author.Tests.{eqb-true, eq-eqb, ltb-true, lt-ltb}
+use Rattle.bits.proofs.Logic.{pick-yes, fails, below-at, below-all, first-passes, first-fails}
+use Rattle.verdicts.specs.Thresholds.{had, ordered}
+use Rattle.refusals.specs.declared.Answer.the-variants.{Accepted}
+use Rattle.refusals.proofs.Passed.{held}
+use Rattle.refusals.specs.declared.Answer.the-variants as answer
+use Rattle.refusals.specs.declared.Written.the-variants as written
+use Rattle.pages.specs.Header as pages
+
+-- the tests of all rows
+module _ (c b : List ℕ) (k n : ℕ) {x m : ℕ} (p : x ≡ offence c b k n) (q : m ≡ rowPlace k n) where
+  pub refused-byte : eqb x m ≡ false → answer.Refused NotAllowed ≡ rowsAsked c b k n
+  unfolding rowsAsked
+  refused-byte e = rw (← p, ← q, e)
+
+  module _ (e : eqb x m ≡ true) where
+    pub not-had : allHad c b k n ≡ false → answer.Refused NoSuchThreshold ≡ rowsAsked c b k n
+    unfolding rowsAsked
+    not-had h = rw (← p, ← q, e, h)
+
+    module _ (h : allHad c b k n ≡ true) where
+      pub not-ordered : allOrdered c b k n ≡ false → answer.Refused ThresholdOrder ≡ rowsAsked c b k n
+      unfolding rowsAsked
+      not-ordered o = rw (← p, ← q, e, h, o)
+
+      pub rows-passed : allOrdered c b k n ≡ true → answer.Accepted ≡ rowsAsked c b k n
+      unfolding rowsAsked
+      rows-passed o = rw (← p, ← q, e, h, o)
+
+-- the rows are accepted just where each of them passes the three tests
+module _ (c b : List ℕ) (k : ℕ) where
+  abbrev pub Fine : ℕ → Type 0
+  Fine i = (rowRefused c b k i ≡ false) × (rowHad c b k i ≡ true) × (rowOrdered c b k i ≡ true)
+
+  module _ (n : ℕ) where
+    none-first : offence c b k n ≡ rowPlace k n → firstBelow (rowRefused c b k) n < n → ⊥
+    unfolding offence
+    none-first h l =
+        let i = firstBelow (rowRefused c b k) n in
+        let e : rowPlace k i + rowOffending c b k i ≡ rowPlace k n = sym (pick-yes _ _ _ (lt-ltb i n l)) ∙ h in
+        omega (arith, e, l, ltb-true (rowOffending c b k i) 4 (first-passes (rowRefused c b k) n l))
+
+    pub rows-fine : rowsAsked c b k n ≡ Accepted → (i : ℕ) → i < n → Fine i
+    unfolding rowsAsked allHad allOrdered
+    rows-fine a i l =
+        let r2 : Answer = unless (allOrdered c b k n) ThresholdOrder Accepted in
+        let r1 : Answer = unless (allHad c b k n) NoSuchThreshold r2 in
+        let h1 = held (eqb (offence c b k n) (rowPlace k n)) NotAllowed r1 a in
+        let h2 = held (allHad c b k n) NoSuchThreshold r2 (h1 .1) in
+        let h3 = held (allOrdered c b k n) ThresholdOrder Accepted (h2 .1) in
+        let z = none-first (eqb-true (offence c b k n) (rowPlace k n) (h1 .0)) in (
+          first-fails (rowRefused c b k) n i (omega (arith, l, z)),
+          below-at (rowHad c b k) n (h2 .0) i l,
+          below-at (rowOrdered c b k) n (h3 .0) i l,
+        )
+
+    pub fine-rows : ((i : ℕ) → i < n → Fine i) → rowsAsked c b k n ≡ Accepted
+    unfolding allHad allOrdered
+    fine-rows h =
+        sym
+        (rows-passed c b k n (none-refused c b k n (below-all (fails (rowRefused c b k)) n (λ i l. ap not (h i l .0))) refl) refl
+        (eq-eqb (rowPlace k n) (rowPlace k n) refl)
+        (below-all (rowHad c b k) n (λ i l. h i l .1))
+        (below-all (rowOrdered c b k) n (λ i l. h i l .2)))
+
+-- a row is asked by its bytes alone, wherever they stand
+pub fine-by : (c b d : List ℕ) (k m i : ℕ) → rowAt b k i ≡ rowAt d m i → Fine c d m i → Fine c b k i
+unfolding rowOffending rowHad rowOrdered
+fine-by c b d k m i e h = (
+  ap (λ (x : List ℕ). ltb (pick (slotAt c i .overall) (firstSet x) 4) 4) e ∙ h .0,
+  ap (had (slotAt c i .kind)) e ∙ h .1,
+  ap (ordered (slotAt c i .kind)) e ∙ h .2,
+)

@@ -1,0 +1,74 @@
+/* How long each call takes on a shelf of 64 elements: eight types, two of each kind, eight elements each. */
+#include "ses.h"
+
+#include <stdio.h>
+#include <string.h>
+#include <time.h>
+
+enum { TYPES = 8, EACH = 8, ROUNDS = 2000 };
+
+static uint8_t shelf[SES_CONFIGURATION_LENGTH + 16 * TYPES * EACH];
+static uint8_t page[512], again[512];
+static uint32_t length;
+static struct ses_status status;
+static struct ses_thresholds thresholds;
+
+static void make_shelf(void)
+{
+    static const uint8_t codes[] = {0x03, 0x04, 0x12, 0x13};
+    shelf[40] = TYPES;
+    for (int t = 0; t < TYPES; t++) {
+        uint8_t *type = shelf + 44 + 36 * t;
+        type[0] = codes[t % 4];
+        type[1] = EACH;
+        type[2] = 32;
+        memset(type + 4, 'x', 32);
+    }
+    for (int j = 0; j < TYPES * EACH; j++) {
+        uint8_t *element = shelf + SES_CONFIGURATION_LENGTH + 16 * j;
+        uint8_t code = codes[j / EACH % 4];
+        element[9] = 100;
+        if (code == 0x03)
+            element[3] = 0x23;
+        else
+            element[4] = element[5] = 50;
+        if (code >= 0x12)
+            element[11] = 100;
+    }
+}
+
+static double now(void)
+{
+    struct timespec t;
+    clock_gettime(CLOCK_MONOTONIC, &t);
+    return t.tv_sec * 1e6 + t.tv_nsec / 1e3;
+}
+
+static int failed;
+
+#define MEASURE(name, call)                                                         \
+    do {                                                                            \
+        double start = now();                                                       \
+        for (int i = 0; i < ROUNDS; i++)                                            \
+            failed |= (call);                                                       \
+        printf("%-24s %8.2f microseconds\n", name, (now() - start) / ROUNDS);       \
+    } while (0)
+
+int main(void)
+{
+    size_t n = sizeof shelf, out = sizeof page, c = SES_CONFIGURATION_LENGTH;
+    make_shelf();
+    MEASURE("check", ses_check(shelf, n));
+    MEASURE("write_configuration", ses_write_configuration(shelf, n, page, out, &length));
+    MEASURE("read_configuration", ses_read_configuration(page, length, again));
+    MEASURE("rewrite_configuration", ses_rewrite_configuration(shelf, c, again, out, &length));
+    MEASURE("write_status", ses_write_status(shelf, n, page, out, &length));
+    MEASURE("read_status", ses_read_status(shelf, c, page, length, &status));
+    MEASURE("rewrite_status", ses_rewrite_status(shelf, c, &status, again, out, &length));
+    MEASURE("write_thresholds", ses_write_thresholds(shelf, n, page, out, &length));
+    MEASURE("read_thresholds", ses_read_thresholds(shelf, c, page, length, &thresholds));
+    MEASURE("rewrite_thresholds", ses_rewrite_thresholds(shelf, c, &thresholds, again, out, &length));
+    if (failed)
+        fprintf(stderr, "bench: a call was refused\n");
+    return failed != 0;
+}

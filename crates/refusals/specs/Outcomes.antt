@@ -29,6 +29,11 @@ abbrev pub writes : Answer → List ℕ → List ℕ → Written
 writes answer.Accepted page out = fitted (length page) (length out)
 writes (answer.Refused r) page out = written.Refused r
 
+-- a refusal of the tests, as the answer of the call that writes
+abbrev pub passedOn : Answer → Written
+passedOn answer.Accepted = written.Bytes 0
+passedOn (answer.Refused r) = written.Refused r
+
 -- the output buffer afterwards: the page and what stood behind it, or as it was
 abbrev pub outAfter : Written → List ℕ → List ℕ → List ℕ
 outAfter (written.Bytes n) page out = page ++ drop n out

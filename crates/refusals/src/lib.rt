@@ -3,7 +3,7 @@
 // A refusal is a value with a number; every promise speaks of the value, and `numberOf` says which number it is.
 ghost use mathlib.Core.Path.{_≡_};
 ghost use Rattle.refusals.specs.Numbers.{numberOf, answerNumber, writtenNumber, bytesWritten};
-ghost use Rattle.refusals.specs.Outcomes.{fitted};
+ghost use Rattle.refusals.specs.Outcomes.{fitted, passedOn};
 
 pub enum Refusal {
     ShelfNotWellFormed,
@@ -62,6 +62,16 @@ impl Answer {
 }
 
 impl Written {
+    // A refusal of the tests before a page is written, passed on.
+    pub fn refused(tested: Answer) -> Written
+        ensures { λ r. ⌜ r ≡ passedOn tested ⌝ }
+    {
+        let Answer::Refused(refusal) = tested else {
+            return Written::Bytes(0);
+        };
+        Written::Refused(refusal)
+    }
+
     // Whether a page of so many bytes is written into an output buffer of this length.
     pub fn fit(bytes: u32, room: usize) -> Written
         ensures { λ r. ⌜ r ≡ fitted bytes room ⌝ }

@@ -42,18 +42,42 @@ pub fn hex(b: u8) {
 }
 
 // The n bytes from a place on, or none where they would not fit.
-fn part(s: &[u8], at: u32, n: u16) -> &[u8] {
+fn part(s: &[u8], at: u32, n: u32) -> &[u8] {
     let a = at as usize;
     let e = a + n as usize;
     if e <= s.len() { &s[a..e] } else { &s[..0] }
 }
 
 pub fn hex_at(s: &[u8], at: u32, n: u16) {
-    let bytes = part(s, at, n);
+    let bytes = part(s, at, n as u32);
     let mut i = 0;
     while i < bytes.len() {
         hex(bytes[i]);
         i += 1;
+    }
+}
+
+fn small_hex(b: u8) {
+    io::print_hex(STDOUT_FILENO, b as u64, 2);
+}
+
+// What follows byte i of n, counted from 1: sixteen stand in a line.
+fn gap(i: usize, n: usize) -> u8 {
+    if (i % 16 == 0) | (i == n) {
+        b'\n'
+    } else {
+        b' '
+    }
+}
+
+// The first n bytes in lower case and nothing else, as sg_ses takes a page.
+pub fn hex_lines(s: &[u8], n: u32) {
+    let bytes = part(s, 0, n);
+    let mut i = 0;
+    while i < bytes.len() {
+        small_hex(bytes[i]);
+        i += 1;
+        text(&[gap(i, bytes.len())]);
     }
 }
 
@@ -63,7 +87,7 @@ fn printable(b: u8) -> u8 {
 
 // The words, which end with a quotation mark, the text that stands at a place, and the closing mark.
 pub fn quoted_at(words: &[u8], s: &[u8], at: u32, n: u16) {
-    let bytes = part(s, at, n);
+    let bytes = part(s, at, n as u32);
     text(words);
     let mut i = 0;
     while i < bytes.len() {

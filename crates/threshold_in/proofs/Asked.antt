@@ -15,7 +15,7 @@ use Rattle.refusals.specs.declared.Answer.{Answer}
 use Rattle.refusals.specs.declared.Answer.the-variants as answer
 use Rattle.refusals.specs.declared.Written.{Written}
 use Rattle.refusals.specs.declared.Written.the-variants as written
-use Rattle.refusals.specs.Outcomes.{fitted, writes, outAfter, recordAfter}
+use Rattle.refusals.specs.Outcomes.{fitted, writes, outAfter, recordAfter, passedOn}
 use Rattle.shelf.specs.Elements.{thresholdsAt}
 use Rattle.shelf.specs.Formed.{wellFormed, configurationFormed}
 use Rattle.pages.specs.Slots.{slotsOf, slotAt, slotPlace, slotsPut}
@@ -100,9 +100,10 @@ module _ (c r out : List ℕ) where
     other-entries t = rw (e, ← q, t)
 
     module _ (u : eqb (entriesIn r) n ≡ true) {a : Answer} (v : a ≡ rowsAsked c r inRecord n) where
-      pub rows-refused : {x : Refusal} → a ≡ answer.Refused x → written.Refused x ≡ writes (recordAsked c r) (pageAgain c r) out
+      pub rows-refused : {x : Refusal} {w : Written} → a ≡ answer.Refused x → w ≡ passedOn a
+          → (w ≡ writes (recordAsked c r) (pageAgain c r) out) × (out ≡ outAfter w (pageAgain c r) out)
       unfolding recordAsked
-      rows-refused t = rw (e, ← q, u, ← v, t)
+      rows-refused {x} {w} t h = let k : w ≡ written.Refused x = h ∙ ap passedOn t in (k ∙ sym (rw (e, ← q, u, ← v, t)), rw k)
 
       pub again-writes : {w : Written} → a ≡ answer.Accepted → w ≡ fitted (length (pageAgain c r)) (length out)
           → w ≡ writes (recordAsked c r) (pageAgain c r) out

@@ -25,9 +25,9 @@ pub fn write(configuration: &[u8], fields: &[u8; reading::LENGTH], out: &mut [u8
         return Written::Refused(Refusal::WantedList);
     }
     let tested = threshold_rows::test(configuration, fields, threshold_rows::IN_RECORD, n);
-    if let Answer::Refused(refusal) = tested {
-        return Written::Refused(refusal);
-    }
+    let Answer::Accepted = tested else {
+        return Written::refused(tested);
+    };
     let fit = Written::fit(slots::slot_place(n), out.len());
     let Written::Bytes(_) = fit else {
         return fit;

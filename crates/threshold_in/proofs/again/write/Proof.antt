@@ -38,14 +38,17 @@ returns-2 c = let s = now (c .before .before .before .before .before .before .be
 test-requires : tie.Need-test-requires
 test-requires c κs = search needs
 
-enum-known-tested : tie.Need-enum-known-tested
-enum-known-tested c = search needs
-
-returns-3 : tie.Need-returns-3
-returns-3 c = let s = now (c .before .before .before .before .before .before .before .before .before .before .before .before .before .before .before .args .configuration) in let z = configuration-sizes s (sym (c .before .before .before .before .before .before .before .before .before .before .before .before .open-configuration .ensures) ∙ c .before .before .before .before .before .before .before .before .before .before .opened .given .1) in let e = slots-are s (z .1) (z .2) in let r = now (c .before .before .before .before .before .before .before .before .before .before .before .before .before .before .before .args .fields) in let o = now (c .before .before .before .before .before .before .before .before .before .before .before .before .before .before .before .args .out) in (rows-refused s r o (z .0) e (eq-eqb _ _ (sym (c .before .before .before .before .before .before .big16-at .ensures) ∙ c .before .before .before .before .before .if1 .left)) (c .before .before .before .test .ensures) (c .before .tested .given .1), refl)
-
 enum-told-2 : tie.Need-enum-told-2
 enum-told-2 c = search needs
+
+enum-told-3 : tie.Need-enum-told-3
+enum-told-3 c = search needs
+
+refused-requires : tie.Need-refused-requires
+refused-requires c κs = search needs
+
+returns-3 : tie.Need-returns-3
+returns-3 c = let s = now (c .before .before .before .before .before .before .before .before .before .before .before .before .before .before .before .args .configuration) in let z = configuration-sizes s (sym (c .before .before .before .before .before .before .before .before .before .before .before .before .open-configuration .ensures) ∙ c .before .before .before .before .before .before .before .before .before .before .opened .given .1) in let e = slots-are s (z .1) (z .2) in let r = now (c .before .before .before .before .before .before .before .before .before .before .before .before .before .before .before .args .fields) in let o = now (c .before .before .before .before .before .before .before .before .before .before .before .before .before .before .before .args .out) in rows-refused s r o (z .0) e (eq-eqb _ _ (sym (c .before .before .before .before .before .before .big16-at .ensures) ∙ c .before .before .before .before .before .if1 .left)) (c .before .before .before .test .ensures) (c .before .enum-told3 .given .1) (c .refused .ensures)
 
 slot-place-requires : tie.Need-slot-place-requires
 slot-place-requires c κs = search needs
@@ -53,14 +56,14 @@ slot-place-requires c κs = search needs
 fit-requires : tie.Need-fit-requires
 fit-requires c κs = search needs
 
-enum-told-3 : tie.Need-enum-told-3
-enum-told-3 c = search needs
-
 enum-told-4 : tie.Need-enum-told-4
 enum-told-4 c = search needs
 
+enum-told-5 : tie.Need-enum-told-5
+enum-told-5 c = search needs
+
 returns-4 : tie.Need-returns-4
-returns-4 c = let s = now (c .before .before .before .before .before .before .before .before .before .before .before .before .before .before .before .before .before .before .args .configuration) in let z = configuration-sizes s (sym (c .before .before .before .before .before .before .before .before .before .before .before .before .before .before .before .open-configuration .ensures) ∙ c .before .before .before .before .before .before .before .before .before .before .before .before .before .opened .given .1) in let e = slots-are s (z .1) (z .2) in let r = now (c .before .before .before .before .before .before .before .before .before .before .before .before .before .before .before .before .before .before .args .fields) in let o = now (c .before .before .before .before .before .before .before .before .before .before .before .before .before .before .before .before .before .before .args .out) in (again-writes s r o (z .0) e (eq-eqb _ _ (sym (c .before .before .before .before .before .before .before .before .before .big16-at .ensures) ∙ c .before .before .before .before .before .before .before .before .if1 .left)) (c .before .before .before .before .before .before .test .ensures) (c .before .before .before .before .enum-told2 .given .1) (again-fits s r o e (c .before .before .before .slot-place .ensures) (c .before .before .fit .ensures)), out-kept (pageAgain s r) o (c .enum-told4 .given .1))
+returns-4 c = let s = now (c .before .before .before .before .before .before .before .before .before .before .before .before .before .before .before .before .before .before .args .configuration) in let z = configuration-sizes s (sym (c .before .before .before .before .before .before .before .before .before .before .before .before .before .before .before .open-configuration .ensures) ∙ c .before .before .before .before .before .before .before .before .before .before .before .before .before .opened .given .1) in let e = slots-are s (z .1) (z .2) in let r = now (c .before .before .before .before .before .before .before .before .before .before .before .before .before .before .before .before .before .before .args .fields) in let o = now (c .before .before .before .before .before .before .before .before .before .before .before .before .before .before .before .before .before .before .args .out) in (again-writes s r o (z .0) e (eq-eqb _ _ (sym (c .before .before .before .before .before .before .before .before .before .big16-at .ensures) ∙ c .before .before .before .before .before .before .before .before .if1 .left)) (c .before .before .before .before .before .before .test .ensures) (c .before .before .before .before .enum-told2 .given .1) (again-fits s r o e (c .before .before .before .slot-place .ensures) (c .before .before .fit .ensures)), out-kept (pageAgain s r) o (c .enum-told5 .given .1))
 
 put-requires : tie.Need-put-requires
 put-requires c κs = search needs
@@ -84,7 +87,7 @@ same-length : tie.Need-same-length
 same-length c = search needs
 
 returns-5 : tie.Need-returns-5
-returns-5 c = let s = now (c .before .before .before .before .before .before .before .before .before .before .before .before .before .before .before .before .before .before .before .before .before .before .before .before .before .before .before .args .configuration) in let z = configuration-sizes s (sym (c .before .before .before .before .before .before .before .before .before .before .before .before .before .before .before .before .before .before .before .before .before .before .before .before .open-configuration .ensures) ∙ c .before .before .before .before .before .before .before .before .before .before .before .before .before .before .before .before .before .before .before .before .before .before .opened .given .1) in let e = slots-are s (z .1) (z .2) in let r = now (c .before .before .before .before .before .before .before .before .before .before .before .before .before .before .before .before .before .before .before .before .before .before .before .before .before .before .before .args .fields) in let o = now (c .before .before .before .before .before .before .before .before .before .before .before .before .before .before .before .before .before .before .before .before .before .before .before .before .before .before .before .args .out) in (again-writes s r o (z .0) e (eq-eqb _ _ (sym (c .before .before .before .before .before .before .before .before .before .before .before .before .before .before .before .before .before .before .big16-at .ensures) ∙ c .before .before .before .before .before .before .before .before .before .before .before .before .before .before .before .before .before .if1 .left)) (c .before .before .before .before .before .before .before .before .before .before .before .before .before .before .before .test .ensures) (c .before .before .before .before .before .before .before .before .before .before .before .before .before .enum-told2 .given .1) (again-fits s r o e (c .before .before .before .before .before .before .before .before .before .before .before .before .slot-place .ensures) (c .before .before .before .before .before .before .before .before .before .before .before .fit .ensures)), again-out s r o e (c .before .before .before .before .before .before .before .before .before .before .before .before .slot-place .ensures) (c .before .before .before .before .before .before .before .before .before .before .before .fit .ensures) (c .before .before .before .before .before .before .before .put .ensures) (c .before .before .copy .ensures) (c .before .before .before .before .before .before .before .before .before .enum-told3 .given .1))
+returns-5 c = let s = now (c .before .before .before .before .before .before .before .before .before .before .before .before .before .before .before .before .before .before .before .before .before .before .before .before .before .before .before .args .configuration) in let z = configuration-sizes s (sym (c .before .before .before .before .before .before .before .before .before .before .before .before .before .before .before .before .before .before .before .before .before .before .before .before .open-configuration .ensures) ∙ c .before .before .before .before .before .before .before .before .before .before .before .before .before .before .before .before .before .before .before .before .before .before .opened .given .1) in let e = slots-are s (z .1) (z .2) in let r = now (c .before .before .before .before .before .before .before .before .before .before .before .before .before .before .before .before .before .before .before .before .before .before .before .before .before .before .before .args .fields) in let o = now (c .before .before .before .before .before .before .before .before .before .before .before .before .before .before .before .before .before .before .before .before .before .before .before .before .before .before .before .args .out) in (again-writes s r o (z .0) e (eq-eqb _ _ (sym (c .before .before .before .before .before .before .before .before .before .before .before .before .before .before .before .before .before .before .big16-at .ensures) ∙ c .before .before .before .before .before .before .before .before .before .before .before .before .before .before .before .before .before .if1 .left)) (c .before .before .before .before .before .before .before .before .before .before .before .before .before .before .before .test .ensures) (c .before .before .before .before .before .before .before .before .before .before .before .before .before .enum-told2 .given .1) (again-fits s r o e (c .before .before .before .before .before .before .before .before .before .before .before .before .slot-place .ensures) (c .before .before .before .before .before .before .before .before .before .before .before .fit .ensures)), again-out s r o e (c .before .before .before .before .before .before .before .before .before .before .before .before .slot-place .ensures) (c .before .before .before .before .before .before .before .before .before .before .before .fit .ensures) (c .before .before .before .before .before .before .before .put .ensures) (c .before .before .copy .ensures) (c .before .before .before .before .before .before .before .before .before .enum-told4 .given .1))
 
 pub write-spec : {M : Type 1} → statement M
 write-spec =
@@ -98,13 +101,14 @@ write-spec =
     big16-at-requires
     returns-2
     test-requires
-    enum-known-tested
-    returns-3
     enum-told-2
+    enum-told-3
+    refused-requires
+    returns-3
     slot-place-requires
     fit-requires
-    enum-told-3
     enum-told-4
+    enum-told-5
     returns-4
     put-requires
     cast-copy

@@ -1,0 +1,47 @@
+// The pages of a shelf, in hexadecimal.
+use refusals::Written;
+
+pub enum Page {
+    Configuration,
+    Status,
+    Thresholds,
+}
+
+// The longest page is the configuration of eight types, each with a text of 32 bytes.
+const MOST_BYTES: usize = 336;
+
+pub fn tell(page: Page, shelf: &[u8]) {
+    let mut out = [0u8; MOST_BYTES];
+    let written = write(page, shelf, &mut out);
+    tell_written(written, &out);
+}
+
+pub fn tell_all(shelf: &[u8]) {
+    tell_headed(b"configuration page", Page::Configuration, shelf);
+    tell_headed(b"status page", Page::Status, shelf);
+    tell_headed(b"threshold page", Page::Thresholds, shelf);
+}
+
+fn tell_headed(name: &[u8], page: Page, shelf: &[u8]) {
+    let mut out = [0u8; MOST_BYTES];
+    let written = write(page, shelf, &mut out);
+    say::text(name);
+    say::count(written.bytes() as u64, b" byte");
+    say::text(b"\n");
+    tell_written(written, &out);
+}
+
+fn write(page: Page, shelf: &[u8], out: &mut [u8]) -> Written {
+    match page {
+        Page::Configuration => ses::write_configuration(shelf, out),
+        Page::Status => ses::write_status(shelf, out),
+        Page::Thresholds => ses::write_thresholds(shelf, out),
+    }
+}
+
+fn tell_written(written: Written, out: &[u8]) {
+    match written {
+        Written::Bytes(n) => say::hex_lines(out, n),
+        Written::Refused(r) => say::refusal::tell(r),
+    }
+}

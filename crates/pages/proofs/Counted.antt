@@ -31,13 +31,3 @@ found c i p q = rw (q, p)
 pub slots-are : (c : List ℕ) {n m : ℕ} → n ≡ typesOf c → m ≡ elementsOf c → n + m ≡ slotsOf c
 unfolding slotsOf
 slots-are c p q = rw (p, q)
-
--- a block of bytes says at most 255 types, and at most 255 elements for each that it has room for
-module _ (c : List ℕ) (h : (i : ℕ) → Fits w8 (getD c i 0)) where
-  before-small : (t : ℕ) → before c t ≤ 255 * t
-  before-small zero = omega (arith, before-none c)
-  before-small (suc t) = rw (← (add-one t)) (omega (arith, before-next c t, before-small t, h (typePlace t + 1) .fits))
-
-  pub slots-small : {n m : ℕ} → n ≡ typesOf c → m ≡ elementsOf c → n + m ≤ 255 * 9
-  unfolding elementsOf
-  slots-small p q = rw (p, q) (omega (arith, h 40 .fits, before-small mostTypes))

@@ -45,5 +45,6 @@ headed c p code n =
 unfoldable pub header : List ℕ → ℕ → ℕ → ℕ → List ℕ
 header c code own n = code ∷ own ∷ (bytes 2 (slotPlace n - 4) ++ fourAt c 0)
 
+-- the list with the header put into it, each half where it fits
 unfoldable pub headPut : List ℕ → List ℕ → ℕ → ℕ → ℕ → List ℕ
 headPut c out code own n = putFour (putFour out 0 (code ∷ own ∷ bytes 2 (slotPlace n - 4))) 4 (fourAt c 0)

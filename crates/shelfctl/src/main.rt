@@ -3,9 +3,7 @@
 //
 // Every answer goes to standard output, a refusal too. What keeps a block from being read goes to standard error.
 mod builtin;
-mod element;
 mod page;
-mod show;
 
 use crate::page::Page;
 use libc::STDERR_FILENO;
@@ -126,7 +124,7 @@ fn tell(command: Command, shelf: &[u8]) {
 
 fn tell_contents(shelf: &[u8]) {
     if tell_checked(shelf) {
-        show::contents(shelf);
+        showing::contents(shelf);
     }
 }
 

@@ -1,5 +1,6 @@
 // The pages of a shelf, in hexadecimal.
 use refusals::Written;
+use shelf::limits;
 
 pub enum Page {
     Configuration,
@@ -7,8 +8,8 @@ pub enum Page {
     Thresholds,
 }
 
-// The longest page is the configuration of eight types, each with a text of 32 bytes.
-const MOST_BYTES: usize = 336;
+// The longest page is a configuration with all types, each with the longest text.
+const MOST_BYTES: usize = 48 + (4 + limits::MOST_TEXT as usize) * limits::MOST_TYPES as usize;
 
 pub fn tell(page: Page, shelf: &[u8]) {
     let mut out = [0u8; MOST_BYTES];

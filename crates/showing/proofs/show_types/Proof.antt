@@ -1,8 +1,8 @@
--- `shelfctl::show::show_types` is safe and ends.
+-- `showing::show_types` is safe and ends.
 use Prim.Native.Nat.{_-_}
 use native.Mathlib.Omega.{arith}
-use Rattle.shelfctl.proofs.show.show_types.Statement.{statement}
-use Rattle.shelfctl.proofs.show.show_types.Tie as tie
+use Rattle.showing.proofs.show_types.Statement.{statement}
+use Rattle.showing.proofs.show_types.Tie as tie
 
 abbrev Inv-loop : tie.InvT-loop
 Inv-loop shelf n t₀ t = Unit {0}

@@ -1,5 +1,6 @@
-// What a well-formed shelf holds: its head, its types, and the elements of each.
-use crate::element;
+// What a well-formed shelf holds, in words: its head, its types, and the elements of each.
+mod element;
+
 use kinds::types::Kind;
 use shelf::limits;
 use shelf::types;

@@ -1,8 +1,8 @@
--- `shelfctl::show::show_elements` is safe and ends.
+-- `showing::show_elements` is safe and ends.
 use Prim.Native.Nat.{_-_}
 use native.Mathlib.Omega.{arith}
-use Rattle.shelfctl.proofs.show.show_elements.Statement.{statement}
-use Rattle.shelfctl.proofs.show.show_elements.Tie as tie
+use Rattle.showing.proofs.show_elements.Statement.{statement}
+use Rattle.showing.proofs.show_elements.Tie as tie
 
 abbrev Inv-loop : tie.InvT-loop
 Inv-loop shelf t n j₀ j = Unit {0}

@@ -19,7 +19,7 @@ use Rattle.kinds.specs.Types.{served}
 use Rattle.refusals.specs.declared.Answer.the-variants.{Accepted}
 use Rattle.shelf.specs.Limits.{mostTypes, mostElements, mostInType, mostText, typeSize, typePlace, textPlace, elementPlace}
 use Rattle.shelf.specs.Types.{typesOf, typeCode, typeCount, textLength, before, elementsOf}
-use Rattle.shelf.specs.Formed.{headFormed, textByteFormed, textFormed, typeFormed, typeByteEmpty, typeEmpty, slotFormed, typesFormed, frontFormed, configurationFormed}
+use Rattle.opening.specs.Formed.{headFormed, textByteFormed, textFormed, typeFormed, typeByteEmpty, typeEmpty, slotFormed, typesFormed, frontFormed, configurationFormed}
 use Rattle.pages.specs.Header.{lengthSaid}
 use Rattle.configuration.specs.Page.{headerPlace, typeHeader, textOf, textStart, configurationLength, fixedPart, configurationPage}
 use Rattle.configuration.specs.Read.{typesOn, headerByte, totalBefore, textPlaceOn, configurationRead}

@@ -19,9 +19,9 @@ use Rattle.bits.proofs.Widths.{big-bytes}
 use Rattle.refusals.specs.declared.Answer.the-variants.{Accepted}
 use Rattle.shelf.specs.Limits.{mostTypes, mostElements, mostText, typeSize, typePlace, textPlace, elementPlace}
 use Rattle.shelf.specs.Types.{typesOf, typeCount, textLength, before, elementsOf}
-use Rattle.shelf.specs.Formed.{frontFormed, wellFormed, configurationFormed}
-use Rattle.shelf.proofs.Stored.{length-formed}
-use Rattle.shelf.proofs.Typed.{front-formed}
+use Rattle.opening.specs.Formed.{frontFormed, wellFormed, configurationFormed}
+use Rattle.opening.proofs.Stored.{length-formed}
+use Rattle.opening.proofs.Typed.{front-formed}
 use Rattle.pages.specs.Header.{lengthSaid}
 use Rattle.configuration.specs.Page.{headerPlace, typeHeader, textOf, textStart, configurationLength, fixedPart, configurationPage}
 use Rattle.configuration.specs.Read.{typesOn, headerByte, totalBefore, textPlaceOn, neededLength, fixedOffends, headerOffends, textOffends, offends, firstOffence, configurationRead}
@@ -31,7 +31,7 @@ use Rattle.bits.proofs.Logic.{by-case}
 use Rattle.configuration.proofs.Fitted.{length-page, length-texts, not-empty}
 use Rattle.configuration.proofs.Tested.{none-offends, all-passed}
 use Rattle.configuration.proofs.OnPage.{page-fixed, page-types, page-header, page-counts, page-lengths, page-texts, page-text}
-use Rattle.shelf.proofs.Parts.{few-elements, in-head, few-types, in-type, short-text, text-printable, text-padded, type-clear}
+use Rattle.opening.proofs.Parts.{few-elements, in-head, few-types, in-type, short-text, text-printable, text-padded, type-clear}
 
 abbrev printable : ℕ → Bool
 printable b = leb 0x20 b && leb b 0x7e

@@ -8,8 +8,8 @@ use lib.Dec.{eqb}
 use lib.ListN.{length}
 use Rattle.bits.proofs.Logic.{and-left}
 use Rattle.shelf.specs.Limits.{mostTypes, mostElements, elementPlace}
-use Rattle.shelf.specs.Formed.{frontFormed, configurationFormed}
-use Rattle.shelf.proofs.Parts.{few-types, few-elements}
+use Rattle.opening.specs.Formed.{frontFormed, configurationFormed}
+use Rattle.opening.proofs.Parts.{few-types, few-elements}
 use Rattle.pages.specs.Slots.{slotsOf}
 
 module _ (c : List ℕ) where

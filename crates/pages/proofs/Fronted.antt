@@ -12,13 +12,13 @@ use Rattle.bits.proofs.Logic.{never, pick-no, fails, below-all, first-passes, f
 use Rattle.kinds.specs.Types.{kindOf}
 use Rattle.shelf.specs.Limits.{mostTypes}
 use Rattle.shelf.specs.Types.{typeCode, before, elementsOf, within, typeOf, kindAt}
-use Rattle.shelf.specs.Formed.{frontFormed}
+use Rattle.opening.specs.Formed.{frontFormed}
 use Rattle.shelf.proofs.Counts.{before-next}
-use Rattle.shelf.proofs.Front.{front, front-get, types-same, code-same, count-same, before-same, elements-same}
+use Rattle.opening.proofs.Fronts.{front, front-get, types-same, code-same, count-same, before-same, elements-same}
 use Rattle.pages.specs.Slots.{slotsOf, startOf, inType, slotType, isOverall, slotAt}
 use Rattle.pages.specs.Header.{header}
 use Rattle.pages.proofs.Slotted.{start-below}
-use Rattle.shelf.proofs.Parts.{few-types}
+use Rattle.opening.proofs.Parts.{few-types}
 
 first-same : (f g : ℕ → Bool) (n : ℕ) → ((k : ℕ) → k < n → f k ≡ g k) → firstBelow f n ≡ firstBelow g n
 first-same f g zero h = refl

@@ -10,7 +10,7 @@ use Rattle.refusals.specs.declared.Refusal.the-variants.{ShelfNotWellFormed, Pa
 use Rattle.refusals.specs.declared.Answer.{Answer}
 use Rattle.refusals.specs.declared.Answer.the-variants.{Accepted}
 use Rattle.refusals.specs.Outcomes.{unless}
-use Rattle.shelf.specs.Formed.{wellFormed, configurationFormed}
+use Rattle.opening.specs.Formed.{wellFormed, configurationFormed}
 use Rattle.pages.specs.Slots.{slotPlace}
 
 -- 1: the shelf record is not well formed

@@ -9,7 +9,7 @@ use Rattle.verdicts.specs.Verdict.{over, under, verdictOf}
 use Rattle.shown.specs.Status.{isOff, shownBy, statusBytes}
 use Rattle.shelf.specs.Types.{before, elementsOf, typeOf, kindAt}
 use Rattle.shelf.specs.Elements.{settingsAt, thresholdsAt, readingAt, nominalAt, spareAt}
-use Rattle.shelf.specs.Formed.{headFormed, textFormed, typeFormed, typeEmpty, slotFormed, typesFormed, spareClear, elementFormed, elementsFormed, frontFormed, wellFormed}
+use Rattle.opening.specs.Formed.{headFormed, textFormed, typeFormed, typeEmpty, slotFormed, typesFormed, spareClear, elementFormed, elementsFormed, frontFormed, wellFormed}
 use Rattle.pages.specs.Slots.{slotsOf, startOf, slotType, isOverall, slotAt}
 use Rattle.pages.specs.Header.{header}
 use Rattle.shows.specs.Shows.{shownAt, codeAt, worst, shownIn, pageBits}

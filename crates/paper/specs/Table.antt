@@ -11,7 +11,7 @@ use Rattle.kinds.specs.Settings.{settingsOf, settingsBytes}
 use Rattle.kinds.specs.Control.{controlOf, acted}
 use Rattle.verdicts.specs.Verdict.{verdictOf}
 use Rattle.shown.specs.Status.{shownBy, statusBytes}
-use Rattle.shelf.specs.Formed.{wellFormed}
+use Rattle.opening.specs.Formed.{wellFormed}
 use Rattle.status.specs.Page.{statusPage}
 
 pub data Case : Type 0 where

@@ -10,7 +10,7 @@ use Rattle.refusals.specs.declared.Written.{Written}
 use Rattle.refusals.specs.declared.Written.the-variants as written
 use Rattle.refusals.specs.Numbers.{answerNumber, writtenNumber, bytesWritten}
 use Rattle.refusals.specs.Outcomes.{fitted, writes, outAfter, recordAfter}
-use Rattle.shelf.specs.Formed.{wellFormed, configurationFormed}
+use Rattle.opening.specs.Formed.{wellFormed, configurationFormed}
 use Rattle.pages.specs.Header.{shelfAsked, configurationAsked}
 
 module _ {w : Written} (v : Written) (page out : List ℕ) {n b : ℕ} {o : List ℕ} where

@@ -3,12 +3,11 @@
 // The module `c` has the same calls for C; include/ses.h declares them.
 pub mod c;
 
+use opening::Opened;
 use refusals::Answer;
 use refusals::Refusal;
 use refusals::Written;
 use shelf::limits;
-use shelf::opening;
-use shelf::opening::Opened;
 ghost use mathlib.Core.Path.{_≡_};
 ghost use Rattle.refusals.specs.Outcomes.{outAfter, recordAfter};
 ghost use Rattle.pages.specs.Header.{shelfAsked};

@@ -1,4 +1,3 @@
 pub mod Limits
 pub mod Types
 pub mod Elements
-pub mod Formed

@@ -15,7 +15,7 @@ use Rattle.refusals.specs.declared.Answer.the-variants as answer
 use Rattle.refusals.specs.declared.Written.{Written}
 use Rattle.refusals.specs.declared.Written.the-variants as written
 use Rattle.refusals.specs.Outcomes.{fitted, writes, outAfter, recordAfter}
-use Rattle.shelf.specs.Formed.{wellFormed, configurationFormed}
+use Rattle.opening.specs.Formed.{wellFormed, configurationFormed}
 use Rattle.shown.specs.declared.Shown.{Shown}
 use Rattle.shown.specs.Status.{statusBytes}
 use Rattle.pages.specs.declared.slots.Slot.{Slot}

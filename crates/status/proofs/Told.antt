@@ -22,10 +22,10 @@ use Rattle.refusals.specs.declared.Answer.the-variants.{Accepted}
 use Rattle.shelf.specs.Limits.{mostTypes, mostElements, elementPlace}
 use Rattle.shelf.specs.Types.{kindAt}
 use Rattle.shelf.specs.Elements.{settingsAt, thresholdsAt, readingAt, nominalAt}
-use Rattle.shelf.specs.Formed.{frontFormed, wellFormed}
-use Rattle.shelf.proofs.Typed.{front-formed}
-use Rattle.shelf.proofs.Parts.{in-element}
-use Rattle.shelf.proofs.Front.{front, configuration-of}
+use Rattle.opening.specs.Formed.{frontFormed, wellFormed}
+use Rattle.opening.proofs.Typed.{front-formed}
+use Rattle.opening.proofs.Parts.{in-element}
+use Rattle.opening.proofs.Fronts.{front, configuration-of}
 use Rattle.shown.specs.declared.Shown.{Shown}
 use Rattle.shown.specs.Status.{codeAllowed, shownBy, shownOf, statusBytes, offending, overallOffending, codeAlone, showable}
 use Rattle.shown.proofs.Back.{four-pass, shown-back, by-showable, shown-clear}

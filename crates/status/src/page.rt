@@ -1,11 +1,10 @@
 // The page of a shelf.
+use opening::Opened;
 use pages::header;
 use pages::slots;
 use pages::slots::Slot;
 use refusals::Refusal;
 use refusals::Written;
-use shelf::opening;
-use shelf::opening::Opened;
 use shown::Shown;
 use shows::PageBits;
 ghost use mathlib.Core.Path.{_≡_};

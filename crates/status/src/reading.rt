@@ -1,11 +1,10 @@
 // The page read, under a configuration.
 use crate::page;
+use opening::Opened;
 use pages::header;
 use pages::slots;
 use refusals::Answer;
 use refusals::Refusal;
-use shelf::opening;
-use shelf::opening::Opened;
 use shown::Shown;
 use shows::PageBits;
 ghost use mathlib.Core.Path.{_≡_};

@@ -15,7 +15,7 @@ use lib.Dec.{eqb}
 use Rattle.refusals.specs.declared.Refusal.the-variants.{ShelfNotWellFormed, NotAllowed, WantedList}
 use Rattle.refusals.specs.declared.Written.{Written}
 use Rattle.refusals.specs.Outcomes.{fitted, writes}
-use Rattle.shelf.specs.Formed.{configurationFormed}
+use Rattle.opening.specs.Formed.{configurationFormed}
 use Rattle.refusals.specs.declared.Answer.the-variants as answer
 use Rattle.refusals.specs.declared.Written.the-variants as written
 use Rattle.pages.specs.Header as pages

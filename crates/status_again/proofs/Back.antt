@@ -23,7 +23,7 @@ use Rattle.refusals.specs.declared.Answer.the-variants.{Accepted}
 use Rattle.refusals.specs.Outcomes.{unless, next}
 use Rattle.refusals.proofs.Passed.{held, held-both}
 use Rattle.shelf.specs.Limits.{mostTypes, mostElements}
-use Rattle.shelf.specs.Formed.{configurationFormed}
+use Rattle.opening.specs.Formed.{configurationFormed}
 use Rattle.shown.specs.Status.{codeAllowed, readingOf, shownOf, statusBytes, firstOf, offending, overallOffending, codeAlone, showable, overallShowable}
 use Rattle.shown.proofs.Back.{all-four, shown-again, clear-showable}
 use Rattle.pages.specs.declared.slots.Slot.{Slot}

@@ -8,7 +8,7 @@ use Rattle.refusals.specs.declared.Refusal.the-variants.{ShelfNotWellFormed, No
 use Rattle.refusals.specs.declared.Answer.{Answer}
 use Rattle.refusals.specs.declared.Answer.the-variants.{Accepted}
 use Rattle.refusals.specs.Outcomes.{unless}
-use Rattle.shelf.specs.Formed.{configurationFormed}
+use Rattle.opening.specs.Formed.{configurationFormed}
 use Rattle.shown.specs.declared.Shown.{Shown}
 use Rattle.shown.specs.Status.{showable, overallShowable}
 use Rattle.pages.specs.declared.slots.Slot.{Slot}

@@ -1,10 +1,9 @@
 // The status page written again from the record that a reader handed back.
+use opening::Opened;
 use pages::header;
 use pages::slots;
 use refusals::Refusal;
 use refusals::Written;
-use shelf::opening;
-use shelf::opening::Opened;
 use status::page;
 ghost use mathlib.Core.Path.{_≡_};
 ghost use Rattle.refusals.specs.Outcomes.{writes, outAfter};

@@ -17,7 +17,7 @@ use Rattle.refusals.specs.declared.Written.{Written}
 use Rattle.refusals.specs.declared.Written.the-variants as written
 use Rattle.refusals.specs.Outcomes.{fitted, writes, outAfter, recordAfter, passedOn}
 use Rattle.shelf.specs.Elements.{thresholdsAt}
-use Rattle.shelf.specs.Formed.{wellFormed, configurationFormed}
+use Rattle.opening.specs.Formed.{wellFormed, configurationFormed}
 use Rattle.pages.specs.Slots.{slotsOf, slotAt, slotPlace, slotsPut}
 use Rattle.pages.specs.Header.{headed, header, shelfAsked}
 use Rattle.pages.specs.Header as pages

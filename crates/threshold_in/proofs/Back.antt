@@ -17,7 +17,7 @@ use Rattle.refusals.specs.declared.Answer.the-variants.{Accepted}
 use Rattle.refusals.specs.Outcomes.{unless, next}
 use Rattle.refusals.proofs.Passed.{held, held-both}
 use Rattle.shelf.specs.Limits.{mostTypes, mostElements}
-use Rattle.shelf.specs.Formed.{configurationFormed}
+use Rattle.opening.specs.Formed.{configurationFormed}
 use Rattle.pages.specs.Slots.{slotsOf}
 use Rattle.pages.specs.Header.{headed}
 use Rattle.pages.proofs.Bounds.{configuration-front, slots-bound}

@@ -17,10 +17,10 @@ use Rattle.verdicts.specs.Thresholds.{had, ordered}
 use Rattle.refusals.specs.declared.Answer.the-variants.{Accepted}
 use Rattle.shelf.specs.Limits.{mostTypes, mostElements}
 use Rattle.shelf.specs.Elements.{thresholdsAt}
-use Rattle.shelf.specs.Formed.{frontFormed, wellFormed}
-use Rattle.shelf.proofs.Typed.{front-formed}
-use Rattle.shelf.proofs.Parts.{in-element}
-use Rattle.shelf.proofs.Front.{front, configuration-of}
+use Rattle.opening.specs.Formed.{frontFormed, wellFormed}
+use Rattle.opening.proofs.Typed.{front-formed}
+use Rattle.opening.proofs.Parts.{in-element}
+use Rattle.opening.proofs.Fronts.{front, configuration-of}
 use Rattle.pages.specs.declared.slots.Slot.{Slot}
 use Rattle.pages.specs.Slots.{slotsOf, slotAt}
 use Rattle.pages.specs.Header.{headed, header}

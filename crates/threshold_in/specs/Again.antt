@@ -8,7 +8,7 @@ use Rattle.bits.specs.Rows.{bytesAt}
 use Rattle.refusals.specs.declared.Refusal.the-variants.{ShelfNotWellFormed, WantedList}
 use Rattle.refusals.specs.declared.Answer.{Answer}
 use Rattle.refusals.specs.Outcomes.{unless}
-use Rattle.shelf.specs.Formed.{configurationFormed}
+use Rattle.opening.specs.Formed.{configurationFormed}
 use Rattle.pages.specs.Slots.{slotsOf}
 use Rattle.pages.specs.Header.{header}
 use Rattle.threshold_rows.specs.Rows.{inRecord, rowsAsked}

@@ -9,7 +9,7 @@ use Rattle.bits.specs.Rows.{bytesAt}
 use Rattle.refusals.specs.declared.Refusal.the-variants.{ShelfNotWellFormed, NotAllowed}
 use Rattle.refusals.specs.declared.Answer.{Answer}
 use Rattle.refusals.specs.Outcomes.{unless, next}
-use Rattle.shelf.specs.Formed.{configurationFormed}
+use Rattle.opening.specs.Formed.{configurationFormed}
 use Rattle.pages.specs.Slots.{slotsOf}
 use Rattle.pages.specs.Header.{headed}
 use Rattle.threshold_rows.specs.Rows.{onPage, rowsAsked}

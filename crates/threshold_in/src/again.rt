@@ -1,13 +1,12 @@
 // The page written again from the record that a reader handed back.
 use crate::page;
 use crate::reading;
+use opening::Opened;
 use pages::header;
 use pages::slots;
 use refusals::Answer;
 use refusals::Refusal;
 use refusals::Written;
-use shelf::opening;
-use shelf::opening::Opened;
 ghost use mathlib.Core.Path.{_≡_};
 ghost use Rattle.refusals.specs.Outcomes.{writes, outAfter};
 ghost use Rattle.threshold_in.specs.Again.{recordAsked, pageAgain};

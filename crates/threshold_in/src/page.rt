@@ -1,11 +1,10 @@
 // The page of a shelf.
+use opening::Opened;
 use pages::header;
 use pages::slots;
 use refusals::Refusal;
 use refusals::Written;
 use shelf::elements;
-use shelf::opening;
-use shelf::opening::Opened;
 ghost use mathlib.Core.Path.{_≡_};
 ghost use Rattle.refusals.specs.Outcomes.{writes, outAfter};
 ghost use Rattle.pages.specs.Slots.{slotsPut};

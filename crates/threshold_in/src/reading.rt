@@ -1,11 +1,10 @@
 // The page read, under a configuration.
 use crate::page;
+use opening::Opened;
 use pages::header;
 use refusals::Answer;
 use refusals::Refusal;
 use shelf::limits;
-use shelf::opening;
-use shelf::opening::Opened;
 ghost use mathlib.Core.Path.{_≡_};
 ghost use Rattle.refusals.specs.Outcomes.{recordAfter};
 ghost use Rattle.threshold_in.specs.Read.{headPut, thresholdRead, thresholdRecord};

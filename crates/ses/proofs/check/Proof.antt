@@ -2,7 +2,7 @@
 use mathlib.Core.Path.{sym, _∙_}
 use denote.Ref.{now}
 use Rattle.bits.proofs.Logic.{pick-yes, pick-no}
-use Rattle.shelf.proofs.Stages.{formed-sizes, not-formed}
+use Rattle.opening.proofs.Stages.{formed-sizes, not-formed}
 use borrow.Author.Needs.{needs}
 use Rattle.ses.proofs.check.Statement.{statement}
 use Rattle.ses.proofs.check.Tie as tie

@@ -1,7 +1,7 @@
 -- `ses::rewrite_configuration` meets its contract. Assumes nothing.
 use mathlib.Core.Path.{refl, sym, _∙_}
 use denote.Ref.{now}
-use Rattle.shelf.proofs.Stages.{configuration-sizes, not-configuration}
+use Rattle.opening.proofs.Stages.{configuration-sizes, not-configuration}
 use Rattle.configuration.specs.Page.{configurationPage}
 use Rattle.ses.proofs.AsC.{configuration-refused, configuration-taken}
 use borrow.Author.Needs.{needs}

@@ -1,7 +1,7 @@
 -- `ses::write_configuration` meets its contract. Assumes nothing.
 use mathlib.Core.Path.{refl, sym, _∙_}
 use denote.Ref.{now}
-use Rattle.shelf.proofs.Stages.{formed-sizes, not-formed}
+use Rattle.opening.proofs.Stages.{formed-sizes, not-formed}
 use Rattle.configuration.specs.Page.{configurationPage}
 use Rattle.ses.proofs.AsC.{shelf-refused, shelf-taken}
 use borrow.Author.Needs.{needs}

@@ -3,9 +3,9 @@ use mathlib.Core.Path.{refl, sym, ap, _∙_}
 use native.Mathlib.Omega.{arith}
 use denote.Ref.{now}
 use borrow.Author.Tests.{eq-eqb, ne-eqb, not-true, not-false}
-use Rattle.shelf.proofs.Stages.{configuration-sizes, not-configuration}
+use Rattle.opening.proofs.Stages.{configuration-sizes, not-configuration}
 use Rattle.pages.proofs.Bounds.{configuration-front}
-use Rattle.shelf.proofs.Parts.{few-types, few-elements}
+use Rattle.opening.proofs.Parts.{few-types, few-elements}
 use Rattle.pages.proofs.Counted.{slots-are}
 use Rattle.pages.proofs.Fitted.{out-kept}
 use Rattle.shows.specs.Shows.{bitsByte}

@@ -4,8 +4,8 @@ use native.Mathlib.Omega.{arith}
 use denote.Ref.{now}
 use lib.Dec.{eqb}
 use borrow.Author.Tests.{eq-eqb, ne-eqb}
-use Rattle.shelf.proofs.Stages.{configuration-sizes, not-configuration}
-use Rattle.shelf.proofs.Parts.{few-types, few-elements}
+use Rattle.opening.proofs.Stages.{configuration-sizes, not-configuration}
+use Rattle.opening.proofs.Parts.{few-types, few-elements}
 use Rattle.pages.proofs.Bounds.{configuration-front, slots-bound}
 use Rattle.pages.proofs.Counted.{slots-are}
 use Rattle.pages.proofs.Fitted.{record-kept}

@@ -1,0 +1,6 @@
+pub mod Judged
+pub mod Stages
+pub mod Stored
+pub mod Typed
+pub mod Fronts
+pub mod Parts

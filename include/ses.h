@@ -2,7 +2,8 @@
  *
  * A shelf is one block of bytes that the caller owns (docs/LAYOUT.md). The library keeps no state and
  * allocates nothing. Every call takes whatever bytes it is given and answers with a refusal number, 0 if
- * it accepted. A refused call leaves every lent byte as it was. No call has to be preceded by a check.
+ * it accepted. A refused call leaves every lent byte as it was, but for `written`, which is then 0. No call
+ * has to be preceded by a check.
  *
  * A pointer is to as many bytes as its length says, and is not NULL, also where the length is 0. Where
  * a call takes two buffers, they do not overlap.

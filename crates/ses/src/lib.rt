@@ -26,11 +26,7 @@ ghost use Rattle.ses.specs.Calls.{configurationWritten, statusWritten, t
 pub fn check(shelf: &[u8]) -> Answer
     ensures { λ r. ⌜ r ≡ shelfAsked (now (shelf .entry)) ⌝ }
 {
-    let opened = opening::open_shelf(shelf);
-    let Opened::Shelf(_) = opened else {
-        return Answer::Refused(Refusal::ShelfNotWellFormed);
-    };
-    Answer::Accepted
+    pages::asked::shelf(shelf)
 }
 
 pub fn write_configuration(shelf: &[u8], out: &mut [u8]) -> Written

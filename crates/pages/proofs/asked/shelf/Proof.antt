@@ -1,11 +1,11 @@
--- `ses::check` meets its contract. Assumes nothing.
+-- `pages::asked::shelf` meets its contract. Assumes nothing.
 use mathlib.Core.Path.{sym, _∙_}
 use denote.Ref.{now}
 use Rattle.bits.proofs.Logic.{pick-yes, pick-no}
 use Rattle.opening.proofs.Stages.{formed-sizes, not-formed}
 use borrow.Author.Needs.{needs}
-use Rattle.ses.proofs.check.Statement.{statement}
-use Rattle.ses.proofs.check.Tie as tie
+use Rattle.pages.proofs.asked.shelf.Statement.{statement}
+use Rattle.pages.proofs.asked.shelf.Tie as tie
 
 open-shelf-requires : tie.Need-open-shelf-requires
 open-shelf-requires c κs = search needs
@@ -22,5 +22,5 @@ returns c = let s = now (c .before .before .before .before .args .shelf) in sym 
 returns-2 : tie.Need-returns-2
 returns-2 c = let s = now (c .before .before .before .before .args .shelf) in sym (pick-yes _ _ _ (formed-sizes s (sym (c .before .before .open-shelf .ensures) ∙ c .enum-told .given .1) .0))
 
-pub check-spec : {M : Type 1} → statement M
-check-spec = tie.close (tie.spec open-shelf-requires enum-told enum-told-2 returns returns-2)
+pub shelf-spec : {M : Type 1} → statement M
+shelf-spec = tie.close (tie.spec open-shelf-requires enum-told enum-told-2 returns returns-2)

@@ -1,8 +1,8 @@
 -- Laws of tests: two that hold together, one at every number below a bound, two that agree on every byte. Assumes nothing.
-use mathlib.Core.Path.{_≡_, refl, sym, ap, _∙_}
+use mathlib.Core.Path.{_≡_, refl, sym, ap, ap₂, _∙_}
 use mathlib.Core.Bool.{Bool, true, false, not, _&&_}
 use mathlib.Core.Logic.{⊎-elim}
-use Prim.Native.Nat.{ℕ, zero, suc, _+_, _<_}
+use Prim.Native.Nat.{ℕ, zero, suc, _+_, _<_, _≤_}
 use native.Mathlib.Nat.{not-suc-le-zero, le-of-suc-le-suc, eq-or-lt-of-le}
 use native.Mathlib.Numerals.{add-one}
 use native.Mathlib.Omega.{arith}
@@ -10,7 +10,7 @@ use borrow.Author.Tests.{not-true, le-ltb, lt-ltb, ltb-true, ltb-false}
 use mir.Val.{Fits}
 use mir.Syntax.{w8}
 use lib.Dec.{ltb}
-use Rattle.bits.specs.Choice.{pick, allBelow, firstBelow}
+use Rattle.bits.specs.Choice.{pick, firstOf, allBelow, firstBelow}
 
 pub never : {A : Type 0} → true ≡ false → A
 never e = let z : _≡_ {A = ℕ} 0 1 = cc in absurd (omega arith)
@@ -37,6 +37,18 @@ and-right false b t = never (sym t)
 
 pub and-both : {a b : Bool} → a ≡ true → b ≡ true → a && b ≡ true
 and-both p q = rw (p, q)
+
+-- four and five tests that hold together
+and-four : (a b c d : Bool) → ((a && b) && c) && d ≡ true → (a ≡ true) × (b ≡ true) × (c ≡ true) × (d ≡ true)
+and-four a b c d h =
+    let k = and-left ((a && b) && c) d h in
+    let j = and-left (a && b) c k in
+    (and-left a b j, and-right a b j, and-right (a && b) c k, and-right ((a && b) && c) d h)
+
+pub and-five : (a b c d e : Bool) → (((a && b) && c) && d) && e ≡ true → (a ≡ true) × (b ≡ true) × (c ≡ true) × (d ≡ true) × (e ≡ true)
+and-five a b c d e h =
+    let f = and-four a b c d (and-left (((a && b) && c) && d) e h) in
+    (f .0, f .1, f .2, f .3, and-right (((a && b) && c) && d) e h)
 
 and-false : (a : Bool) → a && false ≡ false
 and-false true = refl
@@ -115,6 +127,39 @@ first-fails f (suc n) k h = go (first-fails f n k) (ltb (firstBelow f n) n) refl
     go ih false e false q l =
         let m = ltb-false (firstBelow f n) n e in
         ⊎-elim (λ r. ap f r ∙ q) (λ (r : k < n). ih (omega arith)) (eq-or-lt-of-le (le-of-suc-le-suc l))
+
+-- tests that agree at each number below n agree on all of them
+pub all-same : (f g : ℕ → Bool) (n : ℕ) → ((k : ℕ) → k < n → f k ≡ g k) → allBelow f n ≡ allBelow g n
+all-same f g zero h = refl
+all-same f g (suc n) h = ap₂ _&&_ (all-same f g n (λ k l. h k (omega arith))) (h n (omega arith))
+
+pub first-same : (f g : ℕ → Bool) (n : ℕ) → ((k : ℕ) → k < n → f k ≡ g k) → firstBelow f n ≡ firstBelow g n
+first-same f g zero h = refl
+first-same f g (suc n) h =
+    let e = first-same f g n (λ k l. h k (omega arith)) in
+    ap₂ (λ (m : ℕ) (b : Bool). pick (ltb m n) m (pick b n (suc n))) e (h n (omega arith))
+
+-- none of four is refused exactly if each passes
+pub all-four : (a b c d : Bool) → firstOf a b c d ≡ 4 → (a ≡ true) × (b ≡ true) × (c ≡ true) × (d ≡ true)
+unfolding firstOf
+all-four true true true true e = (refl, refl, refl, refl)
+all-four true true true false e = absurd (omega arith)
+all-four true true false d e = absurd (omega arith)
+all-four true false c d e = absurd (omega arith)
+all-four false b c d e = absurd (omega arith)
+
+pub four-pass : {a b c d : Bool} → a ≡ true → b ≡ true → c ≡ true → d ≡ true → firstOf a b c d ≡ 4
+unfolding firstOf
+four-pass p q r s = rw (p, q, r, s)
+
+-- the first of four is one of them, or 4
+pub first-small : (a b c d : Bool) → firstOf a b c d ≤ 4
+unfolding firstOf
+first-small true true true true = omega arith
+first-small true true true false = omega arith
+first-small true true false d = omega arith
+first-small true false c d = omega arith
+first-small false b c d = omega arith
 
 abbrev pub same : Bool → Bool → Bool
 same true b = b

@@ -37,6 +37,23 @@ pub joined-same : (f g : ℕ → List ℕ) (n : ℕ) → ((i : ℕ) → i < n �
 joined-same f g zero h = refl
 joined-same f g (suc n) h = rw (joined-same f g n (λ i l. h i (omega arith)), h n (omega arith))
 
+-- four bytes are what they are made of
+pub as-four : (f : List ℕ) → length f ≡ 4 → f ≡ fourAt f 0
+as-four [] e = absurd (omega arith)
+as-four (a ∷ []) e = absurd (omega arith)
+as-four (a ∷ b ∷ []) e = absurd (omega arith)
+as-four (a ∷ b ∷ c ∷ []) e = absurd (omega arith)
+as-four (a ∷ b ∷ c ∷ d ∷ []) e = refl
+as-four (a ∷ b ∷ c ∷ d ∷ x ∷ r) e = absurd (omega arith)
+
+pub joined-four : (f : ℕ → List ℕ) → ((i : ℕ) → length (f i) ≡ 4) → (n i : ℕ) → i < n → fourAt (joined f n) (4 * i) ≡ f i
+joined-four f h n i l =
+    let z = ap (λ (x : ℕ). getD (joined f n) x 0) (sym (add-zero (4 * i))) ∙ at 0 (omega arith) in
+    rw (z, at 1 (omega arith), at 2 (omega arith), at 3 (omega arith)) (sym (as-four (f i) (h i)))
+  where
+    at : (k : ℕ) → k < 4 → getD (joined f n) (4 * i + k) 0 ≡ getD (f i) k 0
+    at k b = ap (λ (r : List ℕ). getD r (4 * i + k) 0) (sym (append-nil (joined f n))) ∙ joined-get f 4 h n [] i k l b
+
 -- bytes written behind what stands
 behind : (p s v : List ℕ) (k n : ℕ) → length p ≡ k → take k (p ++ drop k s) ++ v ++ drop (k + n) (p ++ drop k s) ≡ p ++ v ++ drop (k + n) s
 behind p s v k n e =

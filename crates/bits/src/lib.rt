@@ -5,6 +5,7 @@
 ghost use mathlib.Core.Path.{_≡_};
 ghost use Prim.Native.Nat.{_+_, _*_};
 ghost use lib.ListN.{getD};
+ghost use Rattle.bits.specs.Choice.{firstOf};
 ghost use Rattle.bits.specs.Bits.{nibble, join};
 ghost use Rattle.bits.specs.Places.{fourAt, putFour, twoAt};
 ghost use Rattle.bits.specs.Numbers.{big};
@@ -22,6 +23,23 @@ pub fn join(high: u8, low: u8) -> u8
     ensures { λ r. ⌜ r ≡ join high low ⌝ }
 {
     (high & 15) << 4 | low & 15
+}
+
+// The first of four that does not hold; 4 if all do.
+pub fn first_of(a: bool, b: bool, c: bool, d: bool) -> u8
+    ensures { λ r. ⌜ r ≡ firstOf a b c d ⌝ }
+{
+    if !a {
+        0
+    } else if !b {
+        1
+    } else if !c {
+        2
+    } else if !d {
+        3
+    } else {
+        4
+    }
 }
 
 fn get(s: &[u8], k: usize) -> u8

@@ -9,14 +9,14 @@ use lib.ListN.{getD}
 use borrow.Author.Tests.{eqb-true, not-true}
 use Rattle.bits.specs.Choice.{pick}
 use Rattle.bits.specs.Bits.{bit, only, nibble, join}
-use Rattle.bits.proofs.Logic.{and-left, and-right, and-both}
+use Rattle.bits.proofs.Logic.{and-both, and-five}
 use Rattle.bits.proofs.Halves.{flags-high, join-low, join-three, low-three, again-byte}
 use Rattle.kinds.specs.declared.types.Kind.{Kind}
 use Rattle.kinds.specs.declared.types.Kind.the-variants.{Cooling, Temperature, Voltage, Current}
 use Rattle.kinds.specs.declared.settings.Settings.{Settings}
 use Rattle.kinds.specs.declared.control.Control.{Control}
-use Rattle.kinds.specs.Settings.{fanSettings, sensorSettings, settingsOf, fanBytes, sensorBytes, settingsBytes, fanClear, sensorClear, requestsClear, speedFormed, settingsFormed}
-use Rattle.kinds.specs.Control.{selected, unselected, asking, controlOf, speedAfter, actedOn, acted}
+use Rattle.kinds.specs.Settings.{fanSettings, sensorSettings, settingsOf, fanBytes, sensorBytes, settingsBytes, secondNamed, fourthNamed, speedFormed, settingsFormed}
+use Rattle.kinds.specs.Control.{selected, unselected, asking, controlOf, speedAfter, acted}
 
 -- ON and SPEED, which fans alone have, are as a sensor's bytes say them
 abbrev pub Fanless : Settings → Type 0
@@ -85,42 +85,41 @@ speed-again : (d : ℕ) → d < 256 → only (6 ∷ 5 ∷ 2 ∷ 1 ∷ 0 ∷ []) 
 speed-again = again-byte (6 ∷ 5 ∷ 2 ∷ 1 ∷ 0 ∷ []) (λ d. join (nibble false (bit 6 d) (bit 5 d) false) (d % 8 % 8)) refl
 
 module _ (a b c d : ℕ) (ha : a < 256) (hb : b < 256) (hd : d < 256) (f : only (6 ∷ 5 ∷ 4 ∷ []) a ≡ true) where
-  fan-again : fanClear (a ∷ b ∷ c ∷ d ∷ []) ≡ true → fanBytes (fanSettings (a ∷ b ∷ c ∷ d ∷ [])) ≡ a ∷ b ∷ c ∷ d ∷ []
-  fan-again t =
-      let y = only (7 ∷ []) b in
-      let z = only (6 ∷ 5 ∷ 2 ∷ 1 ∷ 0 ∷ []) d in
-      let u = and-left (y && eqb c 0) z t in
+  fan-again : only (7 ∷ []) b ≡ true → eqb c 0 ≡ true → only (6 ∷ 5 ∷ 2 ∷ 1 ∷ 0 ∷ []) d ≡ true
+      → fanBytes (fanSettings (a ∷ b ∷ c ∷ d ∷ [])) ≡ a ∷ b ∷ c ∷ d ∷ []
+  fan-again y z w =
       four (first-again a ha f)
-      (again-byte (7 ∷ []) (λ b. join (nibble (bit 7 b) false false false) 0) refl b hb (and-left y (eqb c 0) u))
-      (sym (eqb-true c 0 (and-right y (eqb c 0) u)))
-      (speed-again d hd (and-right (y && eqb c 0) z t))
+      (again-byte (7 ∷ []) (λ b. join (nibble (bit 7 b) false false false) 0) refl b hb y)
+      (sym (eqb-true c 0 z))
+      (speed-again d hd w)
 
-  sensor-again : sensorClear (a ∷ b ∷ c ∷ d ∷ []) ≡ true → sensorBytes (sensorSettings (a ∷ b ∷ c ∷ d ∷ [])) ≡ a ∷ b ∷ c ∷ d ∷ []
-  sensor-again t =
-      let y = only (7 ∷ 6 ∷ []) b in
-      let u = and-left (y && eqb c 0) (eqb d 0) t in
-      four (first-again a ha f)
-      (ident-fail-again b hb (and-left y (eqb c 0) u))
-      (sym (eqb-true c 0 (and-right y (eqb c 0) u)))
-      (sym (eqb-true d 0 (and-right (y && eqb c 0) (eqb d 0) t)))
+  sensor-again : only (7 ∷ 6 ∷ []) b ≡ true → eqb c 0 ≡ true → eqb d 0 ≡ true
+      → sensorBytes (sensorSettings (a ∷ b ∷ c ∷ d ∷ [])) ≡ a ∷ b ∷ c ∷ d ∷ []
+  sensor-again y z w = four (first-again a ha f) (ident-fail-again b hb y) (sym (eqb-true c 0 z)) (sym (eqb-true d 0 w))
 
-  kind-again : (k : Kind) → requestsClear k (a ∷ b ∷ c ∷ d ∷ []) ≡ true
+  kind-again : (k : Kind) → secondNamed k b ≡ true → eqb c 0 ≡ true → fourthNamed k d ≡ true
       → settingsBytes k (settingsOf k (a ∷ b ∷ c ∷ d ∷ [])) ≡ a ∷ b ∷ c ∷ d ∷ []
-  unfolding settingsBytes settingsOf requestsClear
-  kind-again Cooling t = fan-again t
-  kind-again Temperature t = sensor-again t
-  kind-again Voltage t = sensor-again t
-  kind-again Current t = sensor-again t
+  unfolding settingsBytes settingsOf secondNamed fourthNamed
+  kind-again Cooling y z w = fan-again y z w
+  kind-again Temperature y z w = sensor-again y z w
+  kind-again Voltage y z w = sensor-again y z w
+  kind-again Current y z w = sensor-again y z w
+
+-- what settings that a type may have are tested for
+module _ (k : Kind) (e : List ℕ) (t : settingsFormed k e ≡ true) where
+  pub in-settings : (only (6 ∷ 5 ∷ 4 ∷ []) (getD e 0 0) ≡ true)
+      × (secondNamed k (getD e 1 0) ≡ true)
+      × (eqb (getD e 2 0) 0 ≡ true)
+      × (fourthNamed k (getD e 3 0) ≡ true)
+      × (speedFormed k e ≡ true)
+  unfolding settingsFormed
+  in-settings = and-five (only (6 ∷ 5 ∷ 4 ∷ []) (getD e 0 0)) (secondNamed k (getD e 1 0)) (eqb (getD e 2 0) 0) (fourthNamed k (getD e 3 0)) (speedFormed k e) t
 
 -- four bytes that are settings of the type are those that store what they say
 pub settings-again : (k : Kind) (a b c d : ℕ) → a < 256 → b < 256 → c < 256 → d < 256 → settingsFormed k (a ∷ b ∷ c ∷ d ∷ []) ≡ true
     → settingsBytes k (settingsOf k (a ∷ b ∷ c ∷ d ∷ [])) ≡ a ∷ b ∷ c ∷ d ∷ []
-unfolding settingsFormed
 settings-again k a b c d ha hb hc hd t =
-    let e : List ℕ = a ∷ b ∷ c ∷ d ∷ [] in
-    let f = only (6 ∷ 5 ∷ 4 ∷ []) a in
-    let u = and-left (f && requestsClear k e) (speedFormed k e) t in
-    kind-again a b c d ha hb hd (and-left f (requestsClear k e) u) k (and-right f (requestsClear k e) u)
+    let h = in-settings k (a ∷ b ∷ c ∷ d ∷ []) t in kind-again a b c d ha hb hd (h .0) k (h .1) (h .2) (h .3)
 
 speed-small : (a b : ℕ) → a < 8 → b < 8 → speedAfter a b < 8
 speed-small a b h l = go (eqb a 0)
@@ -139,20 +138,11 @@ speed-kept a b h = go (eqb a 0) refl
     go true e = h
     go false e = e
 
-asked-storable : (k : Kind) (r s : Settings) → Storable k r → Storable k s → Storable k (actedOn (asking r) s)
+pub asked-storable : (k : Kind) (r s : Settings) → Storable k r → Storable k s → Storable k (acted (asking r) s)
 asked-storable Cooling r s h l = speed-small (r .speed) (s .speed) h l
 asked-storable Temperature r s h l = (h .0, speed-none (r .speed) (s .speed) (h .1) (l .1))
 asked-storable Voltage r s h l = (h .0, speed-none (r .speed) (s .speed) (h .1) (l .1))
 asked-storable Current r s h l = (h .0, speed-none (r .speed) (s .speed) (h .1) (l .1))
-
--- what a control element makes of settings that can be stored can be stored
-pub acted-storable : (k : Kind) (c : List ℕ) (s : Settings) → Storable k s → Storable k (acted (controlOf k c) s)
-unfolding acted controlOf
-acted-storable k c s h = go (selected c)
-  where
-    go : (t : Bool) → Storable k (acted (pick t (asking (settingsOf k c)) unselected) s)
-    go true = asked-storable k (settingsOf k c) s (settings-storable k c) h
-    go false = h
 
 -- the bytes that flags and a speed make have no other bit
 first-only : (a b c : Bool) → only (6 ∷ 5 ∷ 4 ∷ []) (join (nibble false a b c) 0) ≡ true
@@ -181,45 +171,48 @@ first-clear Temperature s = first-only (s .prdfail) (s .disabled) (s .swap)
 first-clear Voltage s = first-only (s .prdfail) (s .disabled) (s .swap)
 first-clear Current s = first-only (s .prdfail) (s .disabled) (s .swap)
 
-sensor-clear : (s : Settings) → sensorClear (sensorBytes s) ≡ true
-sensor-clear s = and-both (and-both (ident-fail-only (s .ident) (s .fail)) refl) refl
+second-named : (k : Kind) (s : Settings) → secondNamed k (getD (settingsBytes k s) 1 0) ≡ true
+unfolding settingsBytes secondNamed
+second-named Cooling s = ident-only (s .ident)
+second-named Temperature s = ident-fail-only (s .ident) (s .fail)
+second-named Voltage s = ident-fail-only (s .ident) (s .fail)
+second-named Current s = ident-fail-only (s .ident) (s .fail)
 
-rest-clear : (k : Kind) (s : Settings) → requestsClear k (settingsBytes k s) ≡ true
-unfolding settingsBytes requestsClear
-rest-clear Cooling s = and-both (and-both (ident-only (s .ident)) refl) (speed-only (s .fail) (s .on) (s .speed))
-rest-clear Temperature s = sensor-clear s
-rest-clear Voltage s = sensor-clear s
-rest-clear Current s = sensor-clear s
+third-none : (k : Kind) (s : Settings) → eqb (getD (settingsBytes k s) 2 0) 0 ≡ true
+unfolding settingsBytes
+third-none Cooling s = refl
+third-none Temperature s = refl
+third-none Voltage s = refl
+third-none Current s = refl
 
-acted-kept : (c : Control) (s : Settings) → eqb (s .speed) 0 ≡ false → eqb (acted c s .speed) 0 ≡ false
-unfolding acted
-acted-kept c s h = go (c .select)
-  where
-    go : (t : Bool) → eqb (pick t (actedOn c s) s .speed) 0 ≡ false
-    go true = speed-kept (c .speed) (s .speed) h
-    go false = h
+fourth-named : (k : Kind) (s : Settings) → fourthNamed k (getD (settingsBytes k s) 3 0) ≡ true
+unfolding settingsBytes fourthNamed
+fourth-named Cooling s = speed-only (s .fail) (s .on) (s .speed)
+fourth-named Temperature s = refl
+fourth-named Voltage s = refl
+fourth-named Current s = refl
 
-acted-speed : (k : Kind) (c e : List ℕ) → speedFormed k e ≡ true
-    → speedFormed k (settingsBytes k (acted (controlOf k c) (settingsOf k e))) ≡ true
+acted-speed : (k : Kind) (r : Settings) (e : List ℕ) → Storable k r → speedFormed k e ≡ true
+    → speedFormed k (settingsBytes k (acted (asking r) (settingsOf k e))) ≡ true
 unfolding settingsBytes speedFormed
-acted-speed Cooling c e t =
+acted-speed Cooling r e h t =
     let s = settingsOf Cooling e in
-    let r = acted (controlOf Cooling c) s in
-    let l : r .speed < 8 = acted-storable Cooling c s (settings-storable Cooling e) in
-    let n : join (nibble false (r .fail) (r .on) false) (r .speed % 8) % 8 ≡ r .speed = join-three _ (r .speed) ∙ omega arith in
-    rw (n, acted-kept (controlOf Cooling c) s (nonzero t))
+    let x = acted (asking r) s in
+    let l : x .speed < 8 = asked-storable Cooling r s h (settings-storable Cooling e) in
+    let n : join (nibble false (x .fail) (x .on) false) (x .speed % 8) % 8 ≡ x .speed = join-three _ (x .speed) ∙ omega arith in
+    rw (n, speed-kept (r .speed) (s .speed) (nonzero t))
   where
     nonzero : not (eqb (getD e 3 0 % 8) 0) ≡ true → eqb (settingsOf Cooling e .speed) 0 ≡ false
     nonzero t = unfold settingsOf in not-true (eqb (getD e 3 0 % 8) 0) t
-acted-speed Temperature c e t = refl
-acted-speed Voltage c e t = refl
-acted-speed Current c e t = refl
+acted-speed Temperature r e h t = refl
+acted-speed Voltage r e h t = refl
+acted-speed Current r e h t = refl
 
--- what a control element makes of settings that a type may have are again such
-pub acted-formed : (k : Kind) (c e : List ℕ) → settingsFormed k e ≡ true
-    → settingsFormed k (settingsBytes k (acted (controlOf k c) (settingsOf k e))) ≡ true
+-- what a selected control element makes of settings that a type may have are again such
+pub acted-formed : (k : Kind) (r : Settings) (e : List ℕ) → Storable k r → settingsFormed k e ≡ true
+    → settingsFormed k (settingsBytes k (acted (asking r) (settingsOf k e))) ≡ true
 unfolding settingsFormed
-acted-formed k c e t =
-    let s = acted (controlOf k c) (settingsOf k e) in
-    and-both (and-both (first-clear k s) (rest-clear k s))
-    (acted-speed k c e (and-right (only (6 ∷ 5 ∷ 4 ∷ []) (getD e 0 0) && requestsClear k e) (speedFormed k e) t))
+acted-formed k r e h t =
+    let s = acted (asking r) (settingsOf k e) in
+    and-both (and-both (and-both (and-both (first-clear k s) (second-named k s)) (third-none k s)) (fourth-named k s))
+    (acted-speed k r e h (in-settings k e t .4))

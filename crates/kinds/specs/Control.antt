@@ -4,12 +4,12 @@ use mathlib.Core.List.{List, [], _∷_}
 use Prim.Native.Nat.{ℕ}
 use lib.Dec.{eqb}
 use lib.ListN.{getD}
-use Rattle.bits.specs.Choice.{pick}
+use Rattle.bits.specs.Choice.{pick, firstOf}
 use Rattle.bits.specs.Bits.{bit, only}
 use Rattle.kinds.specs.declared.types.Kind.{Kind}
 use Rattle.kinds.specs.declared.settings.Settings.{Settings}
 use Rattle.kinds.specs.declared.control.Control.{Control}
-use Rattle.kinds.specs.Settings.{settingsOf, requestsClear}
+use Rattle.kinds.specs.Settings.{settingsOf, settingsBytes, secondNamed, fourthNamed}
 
 -- byte 0, bit 7
 abbrev pub selected : List ℕ → Bool
@@ -45,9 +45,12 @@ asking s = record {
 unfoldable pub controlOf : Kind → List ℕ → Control
 controlOf k e = pick (selected e) (asking (settingsOf k e)) unselected
 
--- reserved bits are tested in selected elements only
-unfoldable pub reservedClear : Kind → List ℕ → Bool
-reservedClear k e = pick (selected e) (only (7 ∷ 6 ∷ 5 ∷ 4 ∷ []) (getD e 0 0) && requestsClear k e) true
+-- the first byte with a reserved bit set, 4 if none has one; they are tested in selected elements only
+unfoldable pub offending : Kind → List ℕ → ℕ
+offending k e =
+    pick (selected e)
+    (firstOf (only (7 ∷ 6 ∷ 5 ∷ 4 ∷ []) (getD e 0 0)) (secondNamed k (getD e 1 0)) (eqb (getD e 2 0) 0) (fourthNamed k (getD e 3 0)))
+    4
 
 -- an individual element with SELECT acts alone; one without leaves its element to the overall one
 unfoldable pub chosen : Control → Control → Control
@@ -58,8 +61,8 @@ abbrev pub speedAfter : ℕ → ℕ → ℕ
 speedAfter code stored = pick (eqb code 0) stored code
 
 -- PRDFAIL, DISABLED, IDENT, FAIL and ON take the bits; RST SWAP 1 clears SWAP, 0 keeps it
-abbrev pub actedOn : Control → Settings → Settings
-actedOn c s = record {
+abbrev pub acted : Control → Settings → Settings
+acted c s = record {
   prdfail = c .prdfail;
   disabled = c .disable;
   swap = s .swap && not (c .rstswap);
@@ -69,5 +72,6 @@ actedOn c s = record {
   speed = speedAfter (c .speed) (s .speed);
 }
 
-unfoldable pub acted : Control → Settings → Settings
-acted c s = pick (c .select) (actedOn c s) s
+-- the stored settings afterwards; an element without SELECT leaves them as they are
+unfoldable pub settled : Kind → Control → List ℕ → List ℕ
+settled k c e = pick (c .select) (settingsBytes k (acted c (settingsOf k e))) e

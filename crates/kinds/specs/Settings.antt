@@ -59,18 +59,18 @@ settingsBytes Temperature s = sensorBytes s
 settingsBytes Voltage s = sensorBytes s
 settingsBytes Current s = sensorBytes s
 
--- bytes 1 to 3 have no bit set but those that the type's control element names
-abbrev pub fanClear : List ℕ → Bool
-fanClear e = (only (7 ∷ []) (getD e 1 0) && eqb (getD e 2 0) 0) && only (6 ∷ 5 ∷ 2 ∷ 1 ∷ 0 ∷ []) (getD e 3 0)
+-- bytes 1 and 3 have no bit set but those that the type's control element names; in byte 2 it names none
+unfoldable pub secondNamed : Kind → ℕ → Bool
+secondNamed Cooling b = only (7 ∷ []) b
+secondNamed Temperature b = only (7 ∷ 6 ∷ []) b
+secondNamed Voltage b = only (7 ∷ 6 ∷ []) b
+secondNamed Current b = only (7 ∷ 6 ∷ []) b
 
-abbrev pub sensorClear : List ℕ → Bool
-sensorClear e = (only (7 ∷ 6 ∷ []) (getD e 1 0) && eqb (getD e 2 0) 0) && eqb (getD e 3 0) 0
-
-unfoldable pub requestsClear : Kind → List ℕ → Bool
-requestsClear Cooling e = fanClear e
-requestsClear Temperature e = sensorClear e
-requestsClear Voltage e = sensorClear e
-requestsClear Current e = sensorClear e
+unfoldable pub fourthNamed : Kind → ℕ → Bool
+fourthNamed Cooling d = only (6 ∷ 5 ∷ 2 ∷ 1 ∷ 0 ∷ []) d
+fourthNamed Temperature d = eqb d 0
+fourthNamed Voltage d = eqb d 0
+fourthNamed Current d = eqb d 0
 
 -- a fan's SPEED is 1 to 7
 unfoldable pub speedFormed : Kind → List ℕ → Bool
@@ -81,4 +81,9 @@ speedFormed Current e = true
 
 -- the four bytes are settings that the type may have
 unfoldable pub settingsFormed : Kind → List ℕ → Bool
-settingsFormed k e = (only (6 ∷ 5 ∷ 4 ∷ []) (getD e 0 0) && requestsClear k e) && speedFormed k e
+settingsFormed k e =
+    (((only (6 ∷ 5 ∷ 4 ∷ []) (getD e 0 0)
+    && secondNamed k (getD e 1 0))
+    && eqb (getD e 2 0) 0)
+    && fourthNamed k (getD e 3 0))
+    && speedFormed k e

@@ -3,7 +3,7 @@ use crate::settings;
 use crate::settings::Settings;
 use crate::types::Kind;
 ghost use mathlib.Core.Path.{_≡_};
-ghost use Rattle.kinds.specs.Control.{controlOf, reservedClear, chosen, speedAfter, acted};
+ghost use Rattle.kinds.specs.Control.{controlOf, offending, chosen, speedAfter, acted};
 
 pub struct Control {
     pub select: bool,
@@ -49,14 +49,20 @@ impl Control {
         }
     }
 
-    // Reserved bits count in a selected element only.
-    pub fn reserved_clear(kind: Kind, e: [u8; 4]) -> bool
-        ensures { λ r. ⌜ r ≡ reservedClear kind e ⌝ }
+    // The first byte with a reserved bit set; 4 if none has one, or without SELECT.
+    pub fn offending(kind: Kind, e: [u8; 4]) -> u8
+        ensures { λ r. ⌜ r ≡ offending kind e ⌝ }
     {
-        if e[0] >> 7 & 1 == 1 {
-            (e[0] & 0x0f == 0) & settings::requests_clear(kind, e)
+        let selected = e[0] >> 7 & 1 == 1;
+        if selected {
+            bits::first_of(
+                e[0] & 0x0f == 0,
+                settings::second_named(kind, e[1]),
+                e[2] == 0,
+                settings::fourth_named(kind, e[3]),
+            )
         } else {
-            true
+            4
         }
     }
 
@@ -66,22 +72,19 @@ impl Control {
         if own.select { own } else { overall }
     }
 
+    // What a selected element makes of settings.
     pub fn act(self, s: Settings) -> Settings
         ensures { λ r. ⌜ r ≡ acted self s ⌝ }
     {
-        if self.select {
-            let speed = speed_after(self.speed, s.speed);
-            Settings {
-                prdfail: self.prdfail,
-                disabled: self.disable,
-                swap: s.swap & !self.rstswap,
-                ident: self.ident,
-                fail: self.fail,
-                on: self.on,
-                speed,
-            }
-        } else {
-            s
+        let speed = speed_after(self.speed, s.speed);
+        Settings {
+            prdfail: self.prdfail,
+            disabled: self.disable,
+            swap: s.swap & !self.rstswap,
+            ident: self.ident,
+            fail: self.fail,
+            on: self.on,
+            speed,
         }
     }
 }

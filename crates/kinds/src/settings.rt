@@ -1,7 +1,7 @@
 // What an element is set to, as a record and as the four bytes that the shelf stores.
 use crate::types::Kind;
 ghost use mathlib.Core.Path.{_≡_};
-ghost use Rattle.kinds.specs.Settings.{settingsWith, fanSettings, sensorSettings, settingsOf, fanBytes, sensorBytes, settingsBytes, requestsClear, speedFormed, settingsFormed};
+ghost use Rattle.kinds.specs.Settings.{settingsWith, fanSettings, sensorSettings, settingsOf, fanBytes, sensorBytes, settingsBytes, secondNamed, fourthNamed, speedFormed, settingsFormed};
 
 pub struct Settings {
     pub prdfail: bool,
@@ -82,15 +82,22 @@ fn sensor_bytes(s: Settings) -> [u8; 4]
     ]
 }
 
-// Bytes 1 to 3 have no bit set that the type's control element does not name.
-pub fn requests_clear(kind: Kind, e: [u8; 4]) -> bool
-    ensures { λ r. ⌜ r ≡ requestsClear kind e ⌝ }
+// Bytes 1 and 3 have no bit set that the type's control element does not name.
+pub fn second_named(kind: Kind, b: u8) -> bool
+    ensures { λ r. ⌜ r ≡ secondNamed kind b ⌝ }
 {
     match kind {
-        Kind::Cooling => (e[1] & 0x7f == 0) & (e[2] == 0) & (e[3] & 0x98 == 0),
-        Kind::Temperature | Kind::Voltage | Kind::Current => {
-            (e[1] & 0x3f == 0) & (e[2] == 0) & (e[3] == 0)
-        }
+        Kind::Cooling => b & 0x7f == 0,
+        Kind::Temperature | Kind::Voltage | Kind::Current => b & 0x3f == 0,
+    }
+}
+
+pub fn fourth_named(kind: Kind, d: u8) -> bool
+    ensures { λ r. ⌜ r ≡ fourthNamed kind d ⌝ }
+{
+    match kind {
+        Kind::Cooling => d & 0x98 == 0,
+        Kind::Temperature | Kind::Voltage | Kind::Current => d == 0,
     }
 }
 
@@ -107,5 +114,9 @@ fn speed_formed(kind: Kind, e: [u8; 4]) -> bool
 pub fn are_formed(kind: Kind, e: [u8; 4]) -> bool
     ensures { λ r. ⌜ r ≡ settingsFormed kind e ⌝ }
 {
-    (e[0] & 0x8f == 0) & requests_clear(kind, e) & speed_formed(kind, e)
+    (e[0] & 0x8f == 0)
+        & second_named(kind, e[1])
+        & (e[2] == 0)
+        & fourth_named(kind, e[3])
+        & speed_formed(kind, e)
 }

@@ -10,19 +10,14 @@ use lib.ListN.{length, getD, take}
 use lib.Seq.{getD-take, length-take-le}
 use borrow.Author.Tests.{eq-eqb}
 use Rattle.bits.specs.Choice.{pick, allBelow}
-use Rattle.bits.proofs.Logic.{and-both}
-use Rattle.kinds.specs.Types.{served}
+use Rattle.bits.proofs.Logic.{and-both, all-same, first-same}
+use Rattle.kinds.specs.Types.{served, kindOf}
 use Rattle.shelf.specs.Limits.{mostTypes, mostElements, mostInType, mostText, typeSize, typePlace, textPlace, elementPlace}
-use Rattle.shelf.specs.Types.{typesOf, typeCode, typeCount, textLength, before, elementsOf}
+use Rattle.shelf.specs.Types.{typesOf, typeCode, typeCount, textLength, before, elementsOf, within, typeOf, kindAt}
 use Rattle.opening.specs.Formed.{headFormed, textByteFormed, textFormed, typeFormed, typeByteEmpty, typeEmpty, slotFormed, typesFormed, frontFormed, wellFormed, configurationFormed}
 use Rattle.shelf.proofs.Counts.{before-none, before-next}
 use Rattle.opening.proofs.Stored.{length-formed}
-use Rattle.opening.proofs.Typed.{front-formed}
-
--- tests that agree at each number below n agree on all of them
-all-same : (f g : ℕ → Bool) (n : ℕ) → ((k : ℕ) → k < n → f k ≡ g k) → allBelow f n ≡ allBelow g n
-all-same f g zero h = refl
-all-same f g (suc n) h = ap₂ _&&_ (all-same f g n (λ k l. h k (omega arith))) (h n (omega arith))
+use Rattle.opening.proofs.Typed.{front-formed, type-below}
 
 abbrev pub front : List ℕ → List ℕ
 front s = take (elementPlace 0) s
@@ -78,6 +73,16 @@ module _ (s : List ℕ) where
   unfolding elementsOf
   elements-same = before-same mostTypes (omega arith)
 
+  type-of-same : (j : ℕ) → typeOf (front s) j ≡ typeOf s j
+  unfolding typeOf
+  type-of-same j =
+      first-same (within (front s) j) (within s j) mostTypes (λ t l. ap (λ (n : ℕ). ltb j n) (before-same (t + 1) (omega arith)))
+
+  kind-same : (j : ℕ) → j < elementsOf s → kindAt (front s) j ≡ kindAt s j
+  unfolding kindAt
+  kind-same j h =
+      ap (λ (t : ℕ). kindOf (typeCode (front s) t)) (type-of-same j) ∙ ap kindOf (code-same (typeOf s j) (type-below s j h))
+
   head-same : headFormed (front s) ≡ headFormed s
   unfolding headFormed
   head-same = rw (front-get 40 (omega arith), front-get 41 (omega arith), front-get 42 (omega arith), front-get 43 (omega arith))
@@ -98,3 +103,26 @@ module _ (s : List ℕ) where
   configuration-of w =
       and-both (front-same ∙ front-formed s w)
       (eq-eqb (length (front s)) (elementPlace 0) (length-take-le (elementPlace 0) s (omega (arith, length-formed s w))))
+
+-- shelves with the same front have the same of all that it tells
+module _ (s x : List ℕ) (e : front x ≡ front s) where
+  pub alike : {A : Type 0} (f : List ℕ → A) → f (front x) ≡ f x → f (front s) ≡ f s → f x ≡ f s
+  alike f p q = sym p ∙ ap f e ∙ q
+
+  pub types-alike : typesOf x ≡ typesOf s
+  types-alike = alike typesOf (types-same x) (types-same s)
+
+  pub elements-alike : elementsOf x ≡ elementsOf s
+  elements-alike = alike elementsOf (elements-same x) (elements-same s)
+
+  pub before-alike : (t : ℕ) → t ≤ mostTypes → before x t ≡ before s t
+  before-alike t h = alike (λ (c : List ℕ). before c t) (before-same x t h) (before-same s t h)
+
+  pub type-alike : (j : ℕ) → typeOf x j ≡ typeOf s j
+  type-alike j = alike (λ (c : List ℕ). typeOf c j) (type-of-same x j) (type-of-same s j)
+
+  pub kind-alike : (j : ℕ) → j < elementsOf s → kindAt x j ≡ kindAt s j
+  kind-alike j h = alike (λ (c : List ℕ). kindAt c j) (kind-same x j (rw elements-alike h)) (kind-same s j h)
+
+  pub front-alike : frontFormed x ≡ frontFormed s
+  front-alike = alike frontFormed (front-same x) (front-same s)

@@ -8,7 +8,7 @@ use lib.Dec.{eqb, leb}
 use lib.ListN.{length, getD}
 use borrow.Author.Tests.{leb-true, eqb-true, lt-ltb, le-ltb}
 use Rattle.bits.specs.Choice.{allBelow}
-use Rattle.bits.proofs.Logic.{and-left, and-right, below-at, pick-yes, pick-no}
+use Rattle.bits.proofs.Logic.{and-left, and-right, and-five, below-at, pick-yes, pick-no}
 use Rattle.kinds.specs.Types.{served, readingAllowed, nominalAllowed}
 use Rattle.kinds.specs.Settings.{settingsFormed}
 use Rattle.verdicts.specs.Thresholds.{had, ordered}
@@ -16,18 +16,6 @@ use Rattle.shelf.specs.Limits.{mostTypes, mostElements, mostInType, mostText, t
 use Rattle.shelf.specs.Types.{typesOf, typeCode, typeCount, textLength, elementsOf, kindAt}
 use Rattle.shelf.specs.Elements.{settingsAt, thresholdsAt, readingAt, nominalAt}
 use Rattle.opening.specs.Formed.{headFormed, textByteFormed, textFormed, typeFormed, typeByteEmpty, typeEmpty, slotFormed, typesFormed, spareClear, elementFormed, elementsFormed, frontFormed, wellFormed}
-
--- four and five tests that hold together
-four : (a b c d : Bool) → ((a && b) && c) && d ≡ true → (a ≡ true) × (b ≡ true) × (c ≡ true) × (d ≡ true)
-four a b c d h =
-    let k = and-left ((a && b) && c) d h in
-    let j = and-left (a && b) c k in
-    (and-left a b j, and-right a b j, and-right (a && b) c k, and-right ((a && b) && c) d h)
-
-five : (a b c d e : Bool) → (((a && b) && c) && d) && e ≡ true → (a ≡ true) × (b ≡ true) × (c ≡ true) × (d ≡ true) × (e ≡ true)
-five a b c d e h =
-    let f = four a b c d (and-left (((a && b) && c) && d) e h) in
-    (f .0, f .1, f .2, f .3, and-right (((a && b) && c) && d) e h)
 
 module _ (s : List ℕ) (w : frontFormed s ≡ true) where
   pub head-formed : headFormed s ≡ true
@@ -44,7 +32,7 @@ module _ (s : List ℕ) (w : frontFormed s ≡ true) where
 
   pub in-head : (leb 1 (typesOf s) ≡ true) × (leb (typesOf s) mostTypes ≡ true) × (eqb (getD s 41 0) 0 ≡ true) × (eqb (getD s 42 0) 0 ≡ true) × (eqb (getD s 43 0) 0 ≡ true)
   unfolding headFormed
-  in-head = five (leb 1 (typesOf s)) (leb (typesOf s) mostTypes) (eqb (getD s 41 0) 0) (eqb (getD s 42 0) 0) (eqb (getD s 43 0) 0) head-formed
+  in-head = and-five (leb 1 (typesOf s)) (leb (typesOf s) mostTypes) (eqb (getD s 41 0) 0) (eqb (getD s 42 0) 0) (eqb (getD s 43 0) 0) head-formed
 
   pub few-types : typesOf s ≤ mostTypes
   few-types = leb-true (typesOf s) mostTypes (in-head .1)
@@ -64,7 +52,7 @@ module _ (s : List ℕ) (w : frontFormed s ≡ true) where
         × (eqb (getD s (typePlace t + 3) 0) 0 ≡ true)
         × (textFormed s t ≡ true)
     unfolding typeFormed
-    in-type = five (served (typeCode s t)) (leb (typeCount s t) mostInType) (leb (textLength s t) mostText) (eqb (getD s (typePlace t + 3) 0) 0) (textFormed s t) named
+    in-type = and-five (served (typeCode s t)) (leb (typeCount s t) mostInType) (leb (textLength s t) mostText) (eqb (getD s (typePlace t + 3) 0) 0) (textFormed s t) named
 
     pub short-text : textLength s t ≤ mostText
     short-text = leb-true (textLength s t) mostText (in-type .2)
@@ -102,4 +90,4 @@ in-element s w j l =
     let d = readingAllowed k (readingAt s j) in
     let e = nominalAllowed k (nominalAt s j) in
     let all = and-right (frontFormed s && eqb (length s) (elementPlace (elementsOf s))) (allBelow (elementFormed s) (elementsOf s)) w in
-    five a b c d e (and-left ((((a && b) && c) && d) && e) (spareClear s j) (below-at (elementFormed s) (elementsOf s) all j l))
+    and-five a b c d e (and-left ((((a && b) && c) && d) && e) (spareClear s j) (below-at (elementFormed s) (elementsOf s) all j l))

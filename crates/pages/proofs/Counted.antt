@@ -1,7 +1,7 @@
 -- How many slots stand before a type, one type after the other. Assumes nothing.
 use mathlib.Core.Path.{_≡_, sym}
 use mathlib.Core.List.{List}
-use Prim.Native.Nat.{ℕ, zero, suc, _+_, _*_, _≤_}
+use Prim.Native.Nat.{ℕ, zero, suc, _+_, _*_, _<_, _≤_}
 use native.Mathlib.Numerals.{add-one}
 use native.Mathlib.Omega.{arith}
 use lib.ListN.{getD}
@@ -31,3 +31,15 @@ found c i p q = rw (q, p)
 pub slots-are : (c : List ℕ) {n m : ℕ} → n ≡ typesOf c → m ≡ elementsOf c → n + m ≡ slotsOf c
 unfolding slotsOf
 slots-are c p q = rw (p, q)
+
+-- however the counts stand, a block of bytes has few slots
+module _ (c : List ℕ) (h : (i : ℕ) → Fits w8 (getD c i 0)) where
+  before-small : (t : ℕ) → before c t ≤ 255 * t
+  before-small zero = omega (arith, before-none c)
+  before-small (suc t) =
+      let b = h (typePlace t + 1) .fits in
+      rw (← (add-one t)) (omega (arith, before-next c t, before-small t, b))
+
+  pub slots-small : {n m : ℕ} → n ≡ typesOf c → m ≡ elementsOf c → n + m < 65536
+  unfolding elementsOf
+  slots-small p q = omega (arith, p, q, h 40 .fits, before-small mostTypes)

@@ -9,19 +9,10 @@ use lib.Seq.{getD-append-add}
 use Rattle.bits.specs.Places.{fourAt, putFour}
 use Rattle.bits.specs.Rows.{joined}
 use Rattle.bits.proofs.Placed.{length-put}
-use Rattle.bits.proofs.Rows.{length-joined, put-next, joined-get}
+use Rattle.bits.proofs.Rows.{as-four, length-joined, joined-get, put-next}
 use Rattle.pages.specs.Slots.{slotPlace, slotsPut}
 use Rattle.pages.specs.Header.{header, headPut}
 use Rattle.pages.proofs.Headed.{head-put}
-
--- four bytes are what they are made of
-pub as-four : (f : List ℕ) → length f ≡ 4 → f ≡ getD f 0 0 ∷ getD f 1 0 ∷ getD f 2 0 ∷ getD f 3 0 ∷ []
-as-four [] e = absurd (omega arith)
-as-four (a ∷ []) e = absurd (omega arith)
-as-four (a ∷ b ∷ []) e = absurd (omega arith)
-as-four (a ∷ b ∷ c ∷ []) e = absurd (omega arith)
-as-four (a ∷ b ∷ c ∷ d ∷ []) e = refl
-as-four (a ∷ b ∷ c ∷ d ∷ x ∷ r) e = absurd (omega arith)
 
 pub length-header : (c : List ℕ) (code own n : ℕ) → length (header c code own n) ≡ 8
 unfolding header

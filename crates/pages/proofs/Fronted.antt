@@ -8,7 +8,7 @@ use native.Mathlib.Omega.{arith}
 use lib.Dec.{ltb}
 use borrow.Author.Tests.{ltb-true, ltb-false, lt-ltb, le-ltb, eq-eqb}
 use Rattle.bits.specs.Choice.{pick, firstBelow}
-use Rattle.bits.proofs.Logic.{never, pick-no, fails, below-all, first-passes, first-fails, first-at}
+use Rattle.bits.proofs.Logic.{never, pick-no, first-same, fails, below-all, first-passes, first-fails, first-at}
 use Rattle.kinds.specs.Types.{kindOf}
 use Rattle.shelf.specs.Limits.{mostTypes}
 use Rattle.shelf.specs.Types.{typeCode, before, elementsOf, within, typeOf, kindAt}
@@ -19,12 +19,6 @@ use Rattle.pages.specs.Slots.{slotsOf, startOf, inType, slotType, isOver
 use Rattle.pages.specs.Header.{header}
 use Rattle.pages.proofs.Slotted.{start-below}
 use Rattle.opening.proofs.Parts.{few-types}
-
-first-same : (f g : ℕ → Bool) (n : ℕ) → ((k : ℕ) → k < n → f k ≡ g k) → firstBelow f n ≡ firstBelow g n
-first-same f g zero h = refl
-first-same f g (suc n) h =
-    let e = first-same f g n (λ k l. h k (omega arith)) in
-    ap₂ (λ (m : ℕ) (b : Bool). pick (ltb m n) m (pick b n (suc n))) e (h n (omega arith))
 
 module _ (s : List ℕ) where
   start-same : (t : ℕ) → t ≤ mostTypes → startOf (front s) t ≡ startOf s t

@@ -1,5 +1,5 @@
 -- The tests of a header one after the other, and the header written. Assumes nothing.
-use mathlib.Core.Path.{_≡_, refl, ap, _∙_}
+use mathlib.Core.Path.{_≡_, refl, sym, ap, _∙_}
 use mathlib.Core.Bool.{true, false}
 use mathlib.Core.List.{List, [], _∷_, _++_}
 use Prim.Native.Nat.{ℕ, _/_, _%_, _-_, _≤_}
@@ -10,9 +10,11 @@ use Rattle.bits.specs.Numbers.{bytes}
 use Rattle.bits.specs.Places.{fourAt, putFour}
 use Rattle.bits.proofs.Rows.{put-next}
 use Rattle.refusals.specs.declared.Refusal.the-variants.{PageTooShort, PageCode, PageLength, Generation}
+use Rattle.refusals.specs.declared.Refusal.{Refusal}
+use Rattle.refusals.specs.declared.Answer.{Answer}
 use Rattle.refusals.specs.declared.Answer.the-variants.{Accepted, Refused}
-use Rattle.pages.specs.Slots.{slotPlace}
-use Rattle.pages.specs.Header.{lengthSaid, generationOn, generationOf, headed, header, headPut}
+use Rattle.pages.specs.Slots.{slotsOf, slotPlace}
+use Rattle.pages.specs.Header.{shelfAsked, pageAsked, lengthSaid, generationOn, generationOf, headed, header, headPut}
 
 module _ (c p : List ℕ) (code n : ℕ) where
   pub too-short : leb 4 (length p) ≡ false → Refused PageTooShort ≡ headed c p code n
@@ -57,3 +59,13 @@ head-put c out code own n h =
     let e = put-next [] out 0 code own (x / 256 % 256) (x % 256) refl (omega arith) in
     ap (λ (o : List ℕ). putFour o 4 (fourAt c 0)) e
     ∙ put-next (code ∷ own ∷ x / 256 % 256 ∷ x % 256 ∷ []) out 4 (getD c 0 0) (getD c 1 0) (getD c 2 0) (getD c 3 0) refl (omega arith)
+
+-- the shelf, then the header
+module _ (s p : List ℕ) (code : ℕ) {a : Answer} (h : a ≡ shelfAsked s) where
+  pub shelf-refused : {r : Refusal} → a ≡ Refused r → a ≡ pageAsked s p code
+  unfolding pageAsked
+  shelf-refused u = u ∙ sym (rw (← h, u))
+
+  pub page-asked : {b : Answer} {n : ℕ} → a ≡ Accepted → n ≡ slotsOf s → b ≡ headed s p code n → b ≡ pageAsked s p code
+  unfolding pageAsked
+  page-asked u q e = e ∙ sym (rw (← h, u, ← q))

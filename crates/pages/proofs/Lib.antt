@@ -5,4 +5,5 @@ pub mod Filled
 pub mod Bounds
 pub mod Fitted
 pub mod Fronted
+pub mod Paired
 pub mod HeadAgain

@@ -9,9 +9,9 @@ use Rattle.bits.specs.Places.{twoAt, fourAt, putFour}
 use Rattle.refusals.specs.declared.Refusal.the-variants.{ShelfNotWellFormed, PageTooShort, PageCode, PageLength, Generation}
 use Rattle.refusals.specs.declared.Answer.{Answer}
 use Rattle.refusals.specs.declared.Answer.the-variants.{Accepted}
-use Rattle.refusals.specs.Outcomes.{unless}
+use Rattle.refusals.specs.Outcomes.{unless, next}
 use Rattle.opening.specs.Formed.{wellFormed, configurationFormed}
-use Rattle.pages.specs.Slots.{slotPlace}
+use Rattle.pages.specs.Slots.{slotsOf, slotPlace}
 
 -- 1: the shelf record is not well formed
 abbrev pub shelfAsked : List ℕ → Answer
@@ -40,6 +40,10 @@ headed c p code n =
     (unless (lengthSaid p) PageLength
     (unless (eqb (length p) (slotPlace n)) PageLength
     (unless (eqb (generationOn p) (generationOf c)) Generation Accepted))))
+
+-- 1 to 5: the shelf, and the header of a page for it
+unfoldable pub pageAsked : List ℕ → List ℕ → ℕ → Answer
+pageAsked s p code = next (shelfAsked s) (headed s p code (slotsOf s))
 
 -- byte 0 the code, byte 1 the page's own, bytes 2 and 3 length minus 4, bytes 4 to 7 the generation code
 unfoldable pub header : List ℕ → ℕ → ℕ → ℕ → List ℕ

@@ -1,10 +1,10 @@
 -- The slots of a page, four bytes each: for each type in order its overall element, then its individual elements. Assumes nothing.
 use mathlib.Core.Bool.{Bool}
 use mathlib.Core.List.{List}
-use Prim.Native.Nat.{ℕ, zero, suc, _+_, _*_, _-_}
+use Prim.Native.Nat.{ℕ, _+_, _*_, _-_}
 use lib.Dec.{eqb, ltb}
 use Rattle.bits.specs.Choice.{pick, firstBelow}
-use Rattle.bits.specs.Places.{putFour}
+use Rattle.bits.specs.Places.{foursPut}
 use Rattle.kinds.specs.Types.{kindOf}
 use Rattle.shelf.specs.Limits.{mostTypes}
 use Rattle.shelf.specs.Types.{typesOf, typeCode, typeCount, before, elementsOf}
@@ -50,5 +50,4 @@ slotPlace i = 8 + 4 * i
 
 -- the page with f 0, f 1, .. put into its first n slots, one after the other
 abbrev pub slotsPut : (ℕ → List ℕ) → List ℕ → ℕ → List ℕ
-slotsPut f out zero = out
-slotsPut f out (suc n) = putFour (slotsPut f out n) (slotPlace n) (f n)
+slotsPut f out n = foursPut slotPlace f out n

@@ -5,7 +5,7 @@ use shelf::types;
 ghost use mathlib.Core.Path.{_≡_};
 ghost use Prim.Native.Nat.{_*_, _≤_};
 ghost use Rattle.shelf.specs.Limits.{mostTypes};
-ghost use Rattle.pages.specs.Slots.{foundAt, slotAt, slotPlace};
+ghost use Rattle.pages.specs.Slots.{slotsOf, foundAt, slotAt, slotPlace};
 
 // What a slot is for: the elements from `first` up to `end`, for an individual element that one alone.
 pub struct Slot {
@@ -36,6 +36,13 @@ fn find(configuration: &[u8], i: u16) -> Found
         t += 1;
     }
     Found { t, start }
+}
+
+// How many slots a page has.
+pub fn count(configuration: &[u8]) -> u16
+    ensures { λ r. ⌜ r ≡ slotsOf (now (configuration .entry)) ⌝ }
+{
+    types::count(configuration) + types::all_elements(configuration)
 }
 
 pub fn slot_at(configuration: &[u8], i: u16) -> Slot

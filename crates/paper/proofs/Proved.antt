@@ -2,8 +2,8 @@
 use mathlib.Core.Path.{_≡_, refl}
 use mathlib.Core.List.{map}
 use Rattle.kinds.specs.Types.{kindOf, readingAllowed, nominalAllowed}
-use Rattle.kinds.specs.Settings.{settingsOf, settingsBytes, requestsClear, speedFormed, settingsFormed}
-use Rattle.kinds.specs.Control.{controlOf, acted}
+use Rattle.kinds.specs.Settings.{settingsOf, settingsBytes, secondNamed, fourthNamed, speedFormed, settingsFormed}
+use Rattle.kinds.specs.Control.{controlOf, settled}
 use Rattle.verdicts.specs.Thresholds.{had, ordered}
 use Rattle.verdicts.specs.Verdict.{over, under, verdictOf}
 use Rattle.shown.specs.Status.{isOff, shownBy, statusBytes}
@@ -17,5 +17,5 @@ use Rattle.status.specs.Page.{slotBytes, pageWith, statusPage}
 use Rattle.paper.specs.Table.{given, told, table}
 
 pub proved : map given table ≡ map told table
-unfolding settingsOf settingsBytes controlOf acted over under verdictOf isOff shownBy statusBytes kindOf readingAllowed nominalAllowed requestsClear speedFormed settingsFormed had ordered before elementsOf typeOf kindAt settingsAt thresholdsAt readingAt nominalAt spareAt headFormed textFormed typeFormed typeEmpty slotFormed typesFormed spareClear elementFormed elementsFormed frontFormed wellFormed slotsOf startOf slotType isOverall slotAt header shownAt codeAt worst shownIn pageBits slotBytes pageWith statusPage
+unfolding settingsOf settingsBytes controlOf settled over under verdictOf isOff shownBy statusBytes kindOf readingAllowed nominalAllowed secondNamed fourthNamed speedFormed settingsFormed had ordered before elementsOf typeOf kindAt settingsAt thresholdsAt readingAt nominalAt spareAt headFormed textFormed typeFormed typeEmpty slotFormed typesFormed spareClear elementFormed elementsFormed frontFormed wellFormed slotsOf startOf slotType isOverall slotAt header shownAt codeAt worst shownIn pageBits slotBytes pageWith statusPage
 proved = refl

@@ -7,8 +7,8 @@ use Rattle.bits.specs.Bits.{num}
 use Rattle.kinds.specs.declared.types.Kind.{Kind}
 use Rattle.kinds.specs.declared.types.Kind.the-variants.{Cooling, Temperature, Voltage, Current}
 use Rattle.verdicts.specs.declared.verdict.Verdict.{Verdict}
-use Rattle.kinds.specs.Settings.{settingsOf, settingsBytes}
-use Rattle.kinds.specs.Control.{controlOf, acted}
+use Rattle.kinds.specs.Settings.{settingsOf}
+use Rattle.kinds.specs.Control.{controlOf, settled}
 use Rattle.verdicts.specs.Verdict.{verdictOf}
 use Rattle.shown.specs.Status.{shownBy, statusBytes}
 use Rattle.opening.specs.Formed.{wellFormed}
@@ -31,7 +31,7 @@ limits v = v .code ∷ num (v .highcrit) ∷ num (v .highwarn) ∷ num (v .lowwa
 abbrev pub given : Case → List ℕ
 given (shows k s r n t b) = statusBytes k (shownBy k (settingsOf k s) r n t)
 given (judges k r n t v) = limits (verdictOf k false r n t)
-given (acts k c s w) = settingsBytes k (acted (controlOf k c) (settingsOf k s))
+given (acts k c s w) = settled k (controlOf k c) s
 given (tells s p) = num (wellFormed s) ∷ statusPage s
 
 -- what document 01 tells

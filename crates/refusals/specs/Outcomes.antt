@@ -1,5 +1,5 @@
 -- How a call comes to its answer, and what it leaves in lent memory. Assumes nothing.
-use mathlib.Core.Bool.{Bool}
+use mathlib.Core.Bool.{Bool, true, false}
 use mathlib.Core.List.{List, _++_}
 use Prim.Native.Nat.{ℕ}
 use lib.Dec.{leb}
@@ -20,6 +20,10 @@ unless t r rest = pick t rest (answer.Refused r)
 abbrev pub next : Answer → Answer → Answer
 next answer.Accepted rest = rest
 next (answer.Refused r) rest = answer.Refused r
+
+abbrev pub accepts : Answer → Bool
+accepts answer.Accepted = true
+accepts (answer.Refused r) = false
 
 -- a page is written if no test refused it and the output buffer holds it
 abbrev pub fitted : ℕ → ℕ → Written

@@ -27,3 +27,6 @@ textPlace t = typePlace t + 4
 -- an element: settings 4, thresholds 4, reading 2, nominal 2, and four zero bytes
 abbrev pub elementPlace : ℕ → ℕ
 elementPlace j = typePlace mostTypes + 16 * j
+
+abbrev pub thresholdsPlace : ℕ → ℕ
+thresholdsPlace j = elementPlace j + 4

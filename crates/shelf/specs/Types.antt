@@ -7,6 +7,7 @@ use lib.ListN.{getD}
 use Rattle.bits.specs.Choice.{firstBelow, sumBelow}
 use Rattle.kinds.specs.declared.types.Kind.{Kind}
 use Rattle.kinds.specs.Types.{kindOf}
+use Rattle.shelf.specs.declared.types.Typed.{Typed}
 use Rattle.shelf.specs.Limits.{mostTypes, typePlace}
 
 abbrev pub typesOf : List ℕ → ℕ
@@ -36,6 +37,10 @@ within s j t = ltb j (before s (t + 1))
 -- the type of element j: the first that ends after it
 unfoldable pub typeOf : List ℕ → ℕ → ℕ
 typeOf s j = firstBelow (within s j) mostTypes
+
+-- with the elements before it
+abbrev pub typedAt : List ℕ → ℕ → Typed
+typedAt s j = record { number = typeOf s j; before = before s (typeOf s j) }
 
 unfoldable pub kindAt : List ℕ → ℕ → Kind
 kindAt s j = kindOf (typeCode s (typeOf s j))

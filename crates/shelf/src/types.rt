@@ -2,7 +2,9 @@
 use crate::limits;
 use kinds::types::Kind;
 ghost use mathlib.Core.Path.{_≡_};
-ghost use Rattle.shelf.specs.Types.{typeCode, typeCount, textLength, typesOf, elementsOf, typeOf, kindAt};
+ghost use Prim.Native.Nat.{_*_, _≤_};
+ghost use Rattle.shelf.specs.Limits.{mostTypes};
+ghost use Rattle.shelf.specs.Types.{typeCode, typeCount, textLength, typesOf, elementsOf, typedAt, kindAt};
 
 // How many types the block says it has.
 pub fn count(shelf: &[u8]) -> u16
@@ -43,24 +45,34 @@ pub fn all_elements(shelf: &[u8]) -> u16
     sum
 }
 
-// The number of the type that element j is of; past the last element, that of no type.
-pub fn type_of(shelf: &[u8], j: u16) -> u16
-    ensures { λ r. ⌜ r ≡ typeOf (now (shelf .entry)) j ⌝ }
+// A type, and how many elements stand before it.
+pub struct Typed {
+    pub number: u16,
+    pub before: u16,
+}
+
+// The type that element j is of; past the last element, that of no type.
+pub fn type_of(shelf: &[u8], j: u16) -> Typed
+    ensures { λ r. ⌜ r ≡ typedAt (now (shelf .entry)) j ⌝ }
+    ensures { λ r. ⌜ r .number ≤ mostTypes ⌝ }
+    ensures { λ r. ⌜ r .before ≤ 255 * mostTypes ⌝ }
 {
-    let mut end: u16 = 0;
+    let mut before: u16 = 0;
     let mut t: u16 = 0;
     while t < limits::MOST_TYPES {
-        end += elements_of(shelf, t) as u16;
+        let end = before + elements_of(shelf, t) as u16;
         if j < end {
-            return t;
+            return Typed { number: t, before };
         }
+        before = end;
         t += 1;
     }
-    t
+    Typed { number: t, before }
 }
 
 pub fn kind_at(shelf: &[u8], j: u16) -> Kind
     ensures { λ r. ⌜ r ≡ kindAt (now (shelf .entry)) j ⌝ }
 {
-    Kind::of(code_of(shelf, type_of(shelf, j)))
+    let at = type_of(shelf, j);
+    Kind::of(code_of(shelf, at.number))
 }

@@ -64,7 +64,7 @@ fn show_elements(shelf: &[u8], t: u16) {
     let n = types::all_elements(shelf);
     let mut j: u16 = 0;
     while j < n {
-        if types::type_of(shelf, j) == t {
+        if types::type_of(shelf, j).number == t {
             element::show(shelf, j);
         }
         j += 1;

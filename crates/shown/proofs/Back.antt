@@ -9,7 +9,7 @@ use lib.ListN.{getD}
 use borrow.Author.Tests.{eqb-true, leb-true, le-leb, not-true}
 use Rattle.bits.specs.Choice.{pick}
 use Rattle.bits.specs.Bits.{bit, only, nibble, join}
-use Rattle.bits.proofs.Logic.{never, and-left, and-right, and-both, below-at}
+use Rattle.bits.proofs.Logic.{never, and-left, and-right, and-both, below-at, all-four, four-pass}
 use Rattle.bits.proofs.Halves.{nibble-bits, nibble-small, flags-high, flags-low, join-low, join-three, join-mod16, low-three, again-byte}
 use Rattle.bits.proofs.Widths.{big-bytes}
 use Rattle.kinds.specs.declared.types.Kind.{Kind}
@@ -20,7 +20,7 @@ use Rattle.shown.specs.declared.Shown.{Shown}
 use Rattle.kinds.specs.Types.{readingAllowed}
 use Rattle.kinds.specs.Settings.{settingsOf}
 use Rattle.verdicts.specs.Verdict.{codeFor, judged, unlimited, above, below, over, under, verdictOf}
-use Rattle.shown.specs.Status.{isOff, shownBy, firstByte, statusBytes, bitsOf, readingOf, offOf, shownOf, codeAllowed, firstClear, secondClear, fourthClear, firstOf, offending, isHigh, isLow, fanless, fieldsShown, showable}
+use Rattle.shown.specs.Status.{isOff, shownBy, firstByte, statusBytes, bitsOf, readingOf, offOf, shownOf, codeAllowed, firstClear, secondClear, fourthClear, offending, isHigh, isLow, fanless, fieldsShown, showable}
 use Rattle.kinds.proofs.Back.{Fanless, Storable, fan-back, sensor-back, four, ident-fail-again, ident-fail-only}
 
 none : (a b : Bool) → a || b ≡ false → (a ≡ false) × (b ≡ false)
@@ -143,19 +143,6 @@ module _ (a b c d : ℕ) (ha : a < 256) (hb : b < 256) (hc : c < 256) (hd : d < 
       (again-byte (7 ∷ 6 ∷ 3 ∷ 1 ∷ []) (λ b. join (nibble (bit 7 b) (bit 6 b) false false) (nibble (bit 3 b) false (bit 1 b) false)) refl b hb p)
       (omega arith)
       (omega arith)
-
--- none of four is refused exactly if each passes
-pub all-four : (a b c d : Bool) → firstOf a b c d ≡ 4 → (a ≡ true) × (b ≡ true) × (c ≡ true) × (d ≡ true)
-unfolding firstOf
-all-four true true true true e = (refl, refl, refl, refl)
-all-four true true true false e = absurd (omega arith)
-all-four true true false d e = absurd (omega arith)
-all-four true false c d e = absurd (omega arith)
-all-four false b c d e = absurd (omega arith)
-
-pub four-pass : {a b c d : Bool} → a ≡ true → b ≡ true → c ≡ true → d ≡ true → firstOf a b c d ≡ 4
-unfolding firstOf
-four-pass p q r s = rw (p, q, r, s)
 
 -- four bytes of which none is refused are those that show what they say
 pub shown-again : (k : Kind) (a b c d : ℕ) → a < 256 → b < 256 → c < 256 → d < 256 → offending k (a ∷ b ∷ c ∷ d ∷ []) ≡ 4

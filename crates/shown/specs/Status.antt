@@ -4,7 +4,7 @@ use mathlib.Core.List.{List, [], _∷_}
 use Prim.Native.Nat.{ℕ, _+_, _*_, _/_, _%_}
 use lib.Dec.{eqb, leb}
 use lib.ListN.{getD}
-use Rattle.bits.specs.Choice.{pick}
+use Rattle.bits.specs.Choice.{pick, firstOf}
 use Rattle.bits.specs.Bits.{bit, only, nibble, join}
 use Rattle.bits.specs.Numbers.{big, bytes}
 use Rattle.kinds.specs.declared.types.Kind.{Kind}
@@ -142,10 +142,6 @@ fourthClear Cooling d = only (6 ∷ 5 ∷ 4 ∷ 2 ∷ 1 ∷ 0 ∷ []) d
 fourthClear Temperature d = only (3 ∷ 2 ∷ 1 ∷ 0 ∷ []) d
 fourthClear Voltage d = true
 fourthClear Current d = true
-
--- the first of four that does not hold, 4 if all do
-unfoldable pub firstOf : Bool → Bool → Bool → Bool → ℕ
-firstOf a b c d = pick a (pick b (pick c (pick d 4 3) 2) 1) 0
 
 -- the first byte of a status element that is refused, 4 if none is
 unfoldable pub offending : Kind → List ℕ → ℕ

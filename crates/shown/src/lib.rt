@@ -3,7 +3,7 @@ use kinds::settings::Settings;
 use kinds::types::Kind;
 use verdicts::verdict::Verdict;
 ghost use mathlib.Core.Path.{_≡_};
-ghost use Rattle.shown.specs.Status.{isOff, shownBy, firstByte, fanStatus, temperatureStatus, electricStatus, voltageStatus, currentStatus, statusBytes, fanBits, temperatureBits, voltageBits, currentBits, bitsOf, readingOf, offOf, shownOf, codeAlone, codeAllowed, firstClear, secondClear, fourthClear, firstOf, offending, overallOffending, isHigh, isLow, fanless, fieldsShown, showable, overallShowable};
+ghost use Rattle.shown.specs.Status.{isOff, shownBy, firstByte, fanStatus, temperatureStatus, electricStatus, voltageStatus, currentStatus, statusBytes, fanBits, temperatureBits, voltageBits, currentBits, bitsOf, readingOf, offOf, shownOf, codeAlone, codeAllowed, firstClear, secondClear, fourthClear, offending, overallOffending, isHigh, isLow, fanless, fieldsShown, showable, overallShowable};
 
 pub struct Shown {
     pub set: Settings,
@@ -103,7 +103,7 @@ impl Shown {
     pub fn offending(kind: Kind, e: [u8; 4]) -> u8
         ensures { λ r. ⌜ r ≡ offending kind e ⌝ }
     {
-        first_of(
+        bits::first_of(
             first_clear(e[0]),
             second_clear(kind, e[1]),
             true,
@@ -115,7 +115,7 @@ impl Shown {
     pub fn overall_offending(e: [u8; 4]) -> u8
         ensures { λ r. ⌜ r ≡ overallOffending e ⌝ }
     {
-        first_of(code_allowed(e[0]), e[1] == 0, e[2] == 0, e[3] == 0)
+        bits::first_of(code_allowed(e[0]), e[1] == 0, e[2] == 0, e[3] == 0)
     }
 }
 
@@ -301,23 +301,6 @@ fn fourth_clear(kind: Kind, d: u8) -> bool
         Kind::Cooling => d & 0x88 == 0,
         Kind::Temperature => d & 0xf0 == 0,
         Kind::Voltage | Kind::Current => true,
-    }
-}
-
-// The first of four that does not hold.
-fn first_of(a: bool, b: bool, c: bool, d: bool) -> u8
-    ensures { λ r. ⌜ r ≡ firstOf a b c d ⌝ }
-{
-    if !a {
-        0
-    } else if !b {
-        1
-    } else if !c {
-        2
-    } else if !d {
-        3
-    } else {
-        4
     }
 }
 

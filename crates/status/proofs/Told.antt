@@ -6,10 +6,10 @@ use Prim.Native.Nat.{ℕ, _+_, _-_, _<_, _≤_}
 use native.Mathlib.Omega.{arith}
 use lib.ListN.{getD}
 use borrow.Author.Tests.{eq-eqb, le-ltb}
-use Rattle.bits.specs.Choice.{pick}
+use Rattle.bits.specs.Choice.{pick, refusedIn}
 use Rattle.bits.specs.Bits.{only, nibble, bit}
 use Rattle.bits.specs.Places.{fourAt}
-use Rattle.bits.proofs.Logic.{by-case, pick-yes, pick-no, below-all, fails}
+use Rattle.bits.proofs.Logic.{by-case, pick-yes, pick-no, below-all, fails, four-pass}
 use Rattle.bits.proofs.Halves.{nibble-bits}
 use Rattle.bits.proofs.Widths.{Bytes}
 use Rattle.bits.proofs.Rows.{joined-same}
@@ -28,7 +28,7 @@ use Rattle.opening.proofs.Parts.{in-element}
 use Rattle.opening.proofs.Fronts.{front, configuration-of}
 use Rattle.shown.specs.declared.Shown.{Shown}
 use Rattle.shown.specs.Status.{codeAllowed, shownBy, shownOf, statusBytes, offending, overallOffending, codeAlone, showable}
-use Rattle.shown.proofs.Back.{four-pass, shown-back, by-showable, shown-clear}
+use Rattle.shown.proofs.Back.{shown-back, by-showable, shown-clear}
 use Rattle.pages.specs.declared.slots.Slot.{Slot}
 use Rattle.pages.specs.Slots.{slotsOf, slotAt, slotPlace}
 use Rattle.pages.specs.Header.{headed, header}
@@ -40,7 +40,7 @@ use Rattle.shows.specs.declared.PageBits.{PageBits}
 use Rattle.shows.specs.Shows.{shownAt, worst, has, shownIn, pageBits, bitsByte}
 use Rattle.status.specs.Page.{slotBytes, slotRow, pageWith, statusPage}
 use Rattle.status_record.specs.Entries.{recordWith, entryBytes, headRow}
-use Rattle.status.specs.Read.{slotOffending, slotRefused, statusRead, slotShown, bitsOn, statusRecord}
+use Rattle.status.specs.Read.{slotOffending, statusRead, slotShown, bitsOn, statusRecord}
 use Rattle.status.proofs.Asked.{row-length, page-read}
 use Rattle.status.proofs.Turned.{none-refused}
 
@@ -168,7 +168,7 @@ module _ (s : List ℕ) (hs : Bytes s) (w : wellFormed s ≡ true) where
   unfolding statusPage pageWith header
   own = refl
 
-  none : (i : ℕ) → i < slotsOf s → fails (slotRefused (front s) (statusPage s)) i ≡ true
+  none : (i : ℕ) → i < slotsOf s → fails (refusedIn (slotOffending (front s) (statusPage s))) i ≡ true
   none i l = ap not (le-ltb (slotOffending (front s) (statusPage s) i) 4 (omega (arith, not-offending i l)))
 
   -- it is accepted
@@ -178,7 +178,7 @@ module _ (s : List ℕ) (hs : Bytes s) (w : wellFormed s ≡ true) where
       sym
       (page-read (front s) (statusPage s) (configuration-of s w) (sym (slots-same s)) (sym head) refl
       (none-refused (front s) (statusPage s) n (ap (only (2 ∷ 1 ∷ [])) own ∙ own-only (pageBits s .noncritical) (pageBits s .critical))
-      (below-all (fails (slotRefused (front s) (statusPage s))) n none) refl)
+      (below-all (fails (refusedIn (slotOffending (front s) (statusPage s)))) n none) refl)
       refl (eq-eqb (slotPlace n) (slotPlace n) refl))
     where
       head : headed (front s) (statusPage s) 0x02 (slotsOf s) ≡ Accepted

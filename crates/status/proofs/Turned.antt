@@ -3,19 +3,18 @@ use mathlib.Core.Path.{_≡_, sym, ap, _∙_}
 use mathlib.Core.Bool.{true, false}
 use mathlib.Core.List.{List, [], _∷_}
 use Prim.Native.Nat.{ℕ, _+_, _<_}
-use native.Mathlib.Omega.{arith}
 use lib.ListN.{getD}
-use borrow.Author.Tests.{lt-ltb, le-ltb}
-use Rattle.bits.specs.Choice.{allBelow}
+use Rattle.bits.specs.Choice.{allBelow, refusedIn}
 use Rattle.bits.specs.Bits.{only}
 use Rattle.bits.specs.Places.{fourAt}
-use Rattle.bits.proofs.Logic.{pick-yes, pick-no, fails, first-at, first-none}
+use Rattle.bits.proofs.Logic.{pick-yes, pick-no, fails}
+use Rattle.bits.proofs.Offence.{refused-at, refused-none}
 use Rattle.shown.specs.declared.Shown.{Shown}
 use Rattle.shown.specs.Status.{offending, overallOffending, codeAlone, shownOf}
 use Rattle.pages.specs.declared.slots.Slot.{Slot}
 use Rattle.pages.specs.Slots.{slotAt, slotPlace}
 use Rattle.status.specs.Page.{slotBytes, slotRow}
-use Rattle.status.specs.Read.{slotOffending, slotRefused, offence, slotShown}
+use Rattle.status.specs.Read.{slotOffending, offence, slotShown}
 
 -- four bytes of a slot
 pub row-is : (c : List ℕ) (f : ℕ → Shown) (i : ℕ) {at : Slot} {x : Shown} {e : List ℕ} → at ≡ slotAt c i → x ≡ f i → e ≡ slotBytes at x → e ≡ slotRow c f i
@@ -47,15 +46,11 @@ module _ (c p : List ℕ) (n : ℕ) where
   first-byte-refused e = sym (pick-no _ _ _ e)
 
   module _ (e : only (2 ∷ 1 ∷ []) (getD p 1 0) ≡ true) where
-    pub slot-refused : (i : ℕ) {k m : ℕ} → i < n → allBelow (fails (slotRefused c p)) i ≡ true → k ≡ slotOffending c p i → k < 4 → m ≡ slotPlace i
+    pub slot-refused : (i : ℕ) {k m : ℕ} → i < n → allBelow (fails (refusedIn (slotOffending c p))) i ≡ true → k ≡ slotOffending c p i → k < 4 → m ≡ slotPlace i
         → m + k ≡ offence c p n
     unfolding offence
-    slot-refused i l a q b u =
-        let j = first-at (slotRefused c p) n i l a (lt-ltb (slotOffending c p i) 4 (rw q at b)) in
-        rw (q, u) (sym (pick-yes _ _ _ e ∙ rw (j, lt-ltb i n l)))
+    slot-refused i l a q b u = refused-at slotPlace (slotOffending c p) n i l a q b u ∙ sym (pick-yes _ _ _ e)
 
-    pub none-refused : {m : ℕ} → allBelow (fails (slotRefused c p)) n ≡ true → m ≡ slotPlace n → m ≡ offence c p n
+    pub none-refused : {m : ℕ} → allBelow (fails (refusedIn (slotOffending c p))) n ≡ true → m ≡ slotPlace n → m ≡ offence c p n
     unfolding offence
-    none-refused a u =
-        let j = first-none (slotRefused c p) n a in
-        u ∙ sym (pick-yes _ _ _ e ∙ rw (j, le-ltb n n (omega arith)))
+    none-refused a u = refused-none slotPlace (slotOffending c p) n a u ∙ sym (pick-yes _ _ _ e)

@@ -1,10 +1,9 @@
 -- The status page read: which pages are refused, and what the others show. Assumes nothing.
-use mathlib.Core.Bool.{Bool}
 use mathlib.Core.List.{List, [], _∷_}
-use Prim.Native.Nat.{ℕ, _+_}
-use lib.Dec.{eqb, ltb}
+use Prim.Native.Nat.{ℕ}
+use lib.Dec.{eqb}
 use lib.ListN.{getD}
-use Rattle.bits.specs.Choice.{pick, firstBelow}
+use Rattle.bits.specs.Choice.{pick, offenceIn}
 use Rattle.bits.specs.Bits.{bit, only}
 use Rattle.bits.specs.Places.{fourAt}
 use Rattle.refusals.specs.declared.Refusal.the-variants.{ShelfNotWellFormed, NotAllowed}
@@ -26,18 +25,9 @@ slotOffending c p i =
     let at : Slot = slotAt c i in
     pick (at .overall) (overallOffending (fourAt p (slotPlace i))) (offending (at .kind) (fourAt p (slotPlace i)))
 
-abbrev pub slotRefused : List ℕ → List ℕ → ℕ → Bool
-slotRefused c p i = ltb (slotOffending c p i) 4
-
--- where the slots' first refused byte stands, or where the page ends
-abbrev pub slotsOffence : List ℕ → List ℕ → ℕ → ℕ
-slotsOffence c p n =
-    let i : ℕ = firstBelow (slotRefused c p) n in
-    pick (ltb i n) (slotPlace i + slotOffending c p i) (slotPlace n)
-
--- byte 1 may have NON-CRIT and CRIT, bits 2 and 1, and no other
+-- where the first refused byte stands, or where the page ends; byte 1 may have NON-CRIT and CRIT, bits 2 and 1, and no other
 unfoldable pub offence : List ℕ → List ℕ → ℕ → ℕ
-offence c p n = pick (only (2 ∷ 1 ∷ []) (getD p 1 0)) (slotsOffence c p n) 1
+offence c p n = pick (only (2 ∷ 1 ∷ []) (getD p 1 0)) (offenceIn slotPlace (slotOffending c p) n) 1
 
 -- 1: no configuration; 2 to 5: the header; 6: a byte of the page is refused
 unfoldable pub statusRead : List ℕ → List ℕ → Answer

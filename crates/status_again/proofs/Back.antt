@@ -8,10 +8,11 @@ use lib.Dec.{eqb}
 use lib.ListN.{getD}
 use lib.Seq.{take-all}
 use borrow.Author.Tests.{eqb-true, eq-eqb, ltb-true, ltb-false, lt-ltb}
-use Rattle.bits.specs.Choice.{pick, firstBelow}
+use Rattle.bits.specs.Choice.{pick, offenceIn}
 use Rattle.bits.specs.Bits.{bit, only, nibble}
 use Rattle.bits.specs.Places.{fourAt}
-use Rattle.bits.proofs.Logic.{pick-yes, pick-no, and-both, below-all, first-passes, first-fails, by-case}
+use Rattle.bits.proofs.Offence.{row-fine}
+use Rattle.bits.proofs.Logic.{pick-yes, pick-no, and-both, below-all, by-case, all-four, first-small}
 use Rattle.bits.proofs.Halves.{again-byte}
 use Rattle.bits.proofs.Widths.{Bytes}
 use Rattle.bits.proofs.Rows.{joined-same, fours}
@@ -24,8 +25,8 @@ use Rattle.refusals.specs.Outcomes.{unless, next}
 use Rattle.refusals.proofs.Passed.{held, held-both}
 use Rattle.shelf.specs.Limits.{mostTypes, mostElements}
 use Rattle.opening.specs.Formed.{configurationFormed}
-use Rattle.shown.specs.Status.{codeAllowed, readingOf, shownOf, statusBytes, firstOf, offending, overallOffending, codeAlone, showable, overallShowable}
-use Rattle.shown.proofs.Back.{all-four, shown-again, clear-showable}
+use Rattle.shown.specs.Status.{codeAllowed, readingOf, shownOf, statusBytes, offending, overallOffending, codeAlone, showable, overallShowable}
+use Rattle.shown.proofs.Back.{shown-again, clear-showable}
 use Rattle.pages.specs.declared.slots.Slot.{Slot}
 use Rattle.pages.specs.Slots.{slotsOf, slotAt, slotPlace}
 use Rattle.pages.specs.Header.{headed}
@@ -34,18 +35,9 @@ use Rattle.pages.proofs.HeadAgain.{byte-small, length-tested, header-again}
 use Rattle.shows.specs.Shows.{bitsByte}
 use Rattle.status.specs.Page.{slotBytes, slotRow, pageWith}
 use Rattle.status_record.specs.Entries.{entryAt, bitsAt, entriesIn}
-use Rattle.status.specs.Read.{slotOffending, slotRefused, slotsOffence, offence, statusRead, slotShown, bitsOn, statusRecord}
+use Rattle.status.specs.Read.{slotOffending, offence, statusRead, slotShown, bitsOn, statusRecord}
 use Rattle.status_again.specs.Again.{slotShowable, entryFormed, entriesFormed, recordAsked, pageAgain}
 use Rattle.status_record.proofs.Whole.{bits-back, bits-fine, count-back, entry-back, flags-back}
-
--- the first of four is one of them, or 4
-first-small : (a b c d : Bool) → firstOf a b c d ≤ 4
-unfolding firstOf
-first-small true true true true = omega arith
-first-small true true true false = omega arith
-first-small true true false d = omega arith
-first-small true false c d = omega arith
-first-small false b c d = omega arith
 
 slot-small : (c p : List ℕ) (i : ℕ) → slotOffending c p i ≤ 4
 unfolding slotOffending offending overallOffending
@@ -61,20 +53,14 @@ module _ (c p : List ℕ) (n : ℕ) (h : offence c p n ≡ slotPlace n) where
   unfolding offence
   own-fine = go (only (2 ∷ 1 ∷ []) (getD p 1 0)) h
     where
-      go : (t : Bool) → pick t (slotsOffence c p n) 1 ≡ slotPlace n → t ≡ true
+      go : (t : Bool) → pick t (offenceIn slotPlace (slotOffending c p) n) 1 ≡ slotPlace n → t ≡ true
       go true e = refl
       go false e = absurd (omega arith)
 
-  none-first : firstBelow (slotRefused c p) n < n → ⊥
-  unfolding offence
-  none-first l =
-      let i = firstBelow (slotRefused c p) n in
-      let e : slotPlace i + slotOffending c p i ≡ slotPlace n = sym (pick-yes _ _ _ own-fine ∙ pick-yes _ _ _ (lt-ltb i n l)) ∙ h in
-      omega (arith, e, l, slot-small c p i, ltb-true (slotOffending c p i) 4 (first-passes (slotRefused c p) n l))
-
   pub slot-fine : (i : ℕ) → i < n → slotOffending c p i ≡ 4
+  unfolding offence
   slot-fine i l =
-      let e = first-fails (slotRefused c p) n i (omega (arith, l, none-first)) in
+      let e = row-fine slotPlace (slotOffending c p) n (λ j m. omega arith) (sym (pick-yes _ _ _ own-fine) ∙ h) i l in
       omega (arith, ltb-false (slotOffending c p i) 4 e, slot-small c p i)
 
 -- one slot of an accepted page: what it shows can be shown, and is shown by the same bytes

@@ -5,15 +5,16 @@ use mathlib.Core.List.{List}
 use Prim.Native.Nat.{ℕ, _+_, _<_}
 use native.Mathlib.Omega.{arith}
 use lib.Dec.{eqb, ltb}
-use Rattle.bits.specs.Choice.{pick, firstBelow}
+use Rattle.bits.specs.Choice.{pick, refusedIn}
 use Rattle.refusals.specs.declared.Refusal.the-variants.{NotAllowed, NoSuchThreshold, ThresholdOrder}
 use Rattle.refusals.specs.declared.Answer.{Answer}
 use Rattle.refusals.specs.Outcomes.{unless}
 use Rattle.pages.specs.Slots.{slotAt}
+use Rattle.bits.proofs.Offence.{row-fine}
 use Rattle.threshold_rows.proofs.Turned.{none-refused}
-use Rattle.threshold_rows.specs.Rows.{rowPlace, offence, allHad, allOrdered, rowsAsked, rowAt, firstSet, rowOffending, rowRefused, rowHad, rowOrdered}
-use borrow.Author.Tests.{eqb-true, eq-eqb, ltb-true, lt-ltb}
-use Rattle.bits.proofs.Logic.{pick-yes, fails, below-at, below-all, first-passes, first-fails}
+use Rattle.threshold_rows.specs.Rows.{rowPlace, offence, allHad, allOrdered, rowsAsked, rowAt, firstSet, rowOffending, rowHad, rowOrdered}
+use borrow.Author.Tests.{eqb-true, eq-eqb}
+use Rattle.bits.proofs.Logic.{pick-yes, fails, below-at, below-all}
 use Rattle.verdicts.specs.Thresholds.{had, ordered}
 use Rattle.refusals.specs.declared.Answer.the-variants.{Accepted}
 use Rattle.refusals.proofs.Passed.{held}
@@ -44,26 +45,18 @@ module _ (c b : List ℕ) (k n : ℕ) {x m : ℕ} (p : x ≡ offence c b k n) (q
 -- the rows are accepted just where each of them passes the three tests
 module _ (c b : List ℕ) (k : ℕ) where
   abbrev pub Fine : ℕ → Type 0
-  Fine i = (rowRefused c b k i ≡ false) × (rowHad c b k i ≡ true) × (rowOrdered c b k i ≡ true)
+  Fine i = (refusedIn (rowOffending c b k) i ≡ false) × (rowHad c b k i ≡ true) × (rowOrdered c b k i ≡ true)
 
   module _ (n : ℕ) where
-    none-first : offence c b k n ≡ rowPlace k n → firstBelow (rowRefused c b k) n < n → ⊥
-    unfolding offence
-    none-first h l =
-        let i = firstBelow (rowRefused c b k) n in
-        let e : rowPlace k i + rowOffending c b k i ≡ rowPlace k n = sym (pick-yes _ _ _ (lt-ltb i n l)) ∙ h in
-        omega (arith, e, l, ltb-true (rowOffending c b k i) 4 (first-passes (rowRefused c b k) n l))
-
     pub rows-fine : rowsAsked c b k n ≡ Accepted → (i : ℕ) → i < n → Fine i
-    unfolding rowsAsked allHad allOrdered
+    unfolding rowsAsked allHad allOrdered offence
     rows-fine a i l =
         let r2 : Answer = unless (allOrdered c b k n) ThresholdOrder Accepted in
         let r1 : Answer = unless (allHad c b k n) NoSuchThreshold r2 in
         let h1 = held (eqb (offence c b k n) (rowPlace k n)) NotAllowed r1 a in
         let h2 = held (allHad c b k n) NoSuchThreshold r2 (h1 .1) in
-        let h3 = held (allOrdered c b k n) ThresholdOrder Accepted (h2 .1) in
-        let z = none-first (eqb-true (offence c b k n) (rowPlace k n) (h1 .0)) in (
-          first-fails (rowRefused c b k) n i (omega (arith, l, z)),
+        let h3 = held (allOrdered c b k n) ThresholdOrder Accepted (h2 .1) in (
+          row-fine (rowPlace k) (rowOffending c b k) n (λ j m. omega arith) (eqb-true (offence c b k n) (rowPlace k n) (h1 .0)) i l,
           below-at (rowHad c b k) n (h2 .0) i l,
           below-at (rowOrdered c b k) n (h3 .0) i l,
         )
@@ -72,7 +65,7 @@ module _ (c b : List ℕ) (k : ℕ) where
     unfolding allHad allOrdered
     fine-rows h =
         sym
-        (rows-passed c b k n (none-refused c b k n (below-all (fails (rowRefused c b k)) n (λ i l. ap not (h i l .0))) refl) refl
+        (rows-passed c b k n (none-refused c b k n (below-all (fails (refusedIn (rowOffending c b k))) n (λ i l. ap not (h i l .0))) refl) refl
         (eq-eqb (rowPlace k n) (rowPlace k n) refl)
         (below-all (rowHad c b k) n (λ i l. h i l .1))
         (below-all (rowOrdered c b k) n (λ i l. h i l .2)))

@@ -3,14 +3,13 @@ use mathlib.Core.Path.{_≡_, sym, ap, _∙_}
 use mathlib.Core.Bool.{Bool, true, false}
 use mathlib.Core.List.{List}
 use Prim.Native.Nat.{ℕ, _+_, _<_}
-use native.Mathlib.Omega.{arith}
-use borrow.Author.Tests.{lt-ltb, le-ltb}
-use Rattle.bits.specs.Choice.{allBelow}
-use Rattle.bits.proofs.Logic.{pick-yes, pick-no, fails, first-at, first-none}
+use Rattle.bits.specs.Choice.{allBelow, refusedIn}
+use Rattle.bits.proofs.Logic.{pick-yes, pick-no, fails}
+use Rattle.bits.proofs.Offence.{refused-at, refused-none}
 use Rattle.verdicts.specs.Thresholds.{had, ordered}
 use Rattle.pages.specs.declared.slots.Slot.{Slot}
 use Rattle.pages.specs.Slots.{slotAt}
-use Rattle.threshold_rows.specs.Rows.{rowPlace, rowAt, firstSet, rowOffending, rowRefused, offence, rowHad, rowOrdered}
+use Rattle.threshold_rows.specs.Rows.{rowPlace, rowAt, firstSet, rowOffending, offence, rowHad, rowOrdered}
 
 -- one row's tests
 module _ (c b : List ℕ) (k i : ℕ) {at : Slot} {e : List ℕ} (q : at ≡ slotAt c i) (h : e ≡ rowAt b k i) where
@@ -32,15 +31,11 @@ module _ (c b : List ℕ) (k i : ℕ) {at : Slot} {e : List ℕ} (q : at ≡ slo
 
 -- the search for a refused byte
 module _ (c b : List ℕ) (k n : ℕ) where
-  pub row-refused : (i : ℕ) {j m : ℕ} → i < n → allBelow (fails (rowRefused c b k)) i ≡ true → j ≡ rowOffending c b k i → j < 4 → m ≡ rowPlace k i
+  pub row-refused : (i : ℕ) {j m : ℕ} → i < n → allBelow (fails (refusedIn (rowOffending c b k))) i ≡ true → j ≡ rowOffending c b k i → j < 4 → m ≡ rowPlace k i
       → m + j ≡ offence c b k n
   unfolding offence
-  row-refused i l a q t u =
-      let f = first-at (rowRefused c b k) n i l a (lt-ltb (rowOffending c b k i) 4 (rw q at t)) in
-      rw (q, u) (sym (rw (f, lt-ltb i n l)))
+  row-refused i l a q t u = refused-at (rowPlace k) (rowOffending c b k) n i l a q t u
 
-  pub none-refused : {m : ℕ} → allBelow (fails (rowRefused c b k)) n ≡ true → m ≡ rowPlace k n → m ≡ offence c b k n
+  pub none-refused : {m : ℕ} → allBelow (fails (refusedIn (rowOffending c b k))) n ≡ true → m ≡ rowPlace k n → m ≡ offence c b k n
   unfolding offence
-  none-refused a u =
-      let f = first-none (rowRefused c b k) n a in
-      u ∙ sym (rw (f, le-ltb n n (omega arith)))
+  none-refused a u = refused-none (rowPlace k) (rowOffending c b k) n a u

@@ -2,9 +2,9 @@
 use mathlib.Core.Bool.{Bool, not}
 use mathlib.Core.List.{List}
 use Prim.Native.Nat.{ℕ, _+_, _*_}
-use lib.Dec.{eqb, ltb}
+use lib.Dec.{eqb}
 use lib.ListN.{getD}
-use Rattle.bits.specs.Choice.{pick, allBelow, firstBelow}
+use Rattle.bits.specs.Choice.{pick, allBelow, firstBelow, offenceIn}
 use Rattle.bits.specs.Places.{fourAt}
 use Rattle.verdicts.specs.Thresholds.{had, ordered}
 use Rattle.refusals.specs.declared.Refusal.the-variants.{NotAllowed, NoSuchThreshold, ThresholdOrder}
@@ -37,14 +37,9 @@ firstSet e = firstBelow (isSet e) 4
 unfoldable pub rowOffending : List ℕ → List ℕ → ℕ → ℕ → ℕ
 rowOffending c b k i = pick (slotAt c i .overall) (firstSet (rowAt b k i)) 4
 
-abbrev pub rowRefused : List ℕ → List ℕ → ℕ → ℕ → Bool
-rowRefused c b k i = ltb (rowOffending c b k i) 4
-
 -- where the first refused byte of n rows stands, or where the rows end
 unfoldable pub offence : List ℕ → List ℕ → ℕ → ℕ → ℕ
-offence c b k n =
-    let i : ℕ = firstBelow (rowRefused c b k) n in
-    pick (ltb i n) (rowPlace k i + rowOffending c b k i) (rowPlace k n)
+offence c b k n = offenceIn (rowPlace k) (rowOffending c b k) n
 
 unfoldable pub rowHad : List ℕ → List ℕ → ℕ → ℕ → Bool
 rowHad c b k i = had (slotAt c i .kind) (rowAt b k i)

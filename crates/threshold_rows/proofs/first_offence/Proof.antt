@@ -6,15 +6,15 @@ use denote.Ref.{now}
 use borrow.Author.Needs.{needs}
 use mathlib.Core.Bool.{true, not}
 use borrow.Author.Tests.{le-ltb}
-use Rattle.bits.specs.Choice.{allBelow}
+use Rattle.bits.specs.Choice.{allBelow, refusedIn}
 use Rattle.bits.proofs.Logic.{fails, below-next}
-use Rattle.threshold_rows.specs.Rows.{rowOffending, rowRefused}
+use Rattle.threshold_rows.specs.Rows.{rowOffending}
 use Rattle.threshold_rows.proofs.Turned.{row-refused, none-refused}
 use Rattle.threshold_rows.proofs.first_offence.Statement.{statement}
 use Rattle.threshold_rows.proofs.first_offence.Tie as tie
 
 abbrev Inv-loop : tie.InvT-loop
-Inv-loop configuration block start n i₀ i = (i ≤ n) × (allBelow (fails (rowRefused configuration block start)) i ≡ true)
+Inv-loop configuration block start n i₀ i = (i ≤ n) × (allBelow (fails (refusedIn (rowOffending configuration block start))) i ≡ true)
 
 abbrev μ-loop : tie.MeasureT-loop
 μ-loop configuration block start n i₀ i = n - i
@@ -44,7 +44,7 @@ loop-less : tie.Need-loop-less Inv-loop μ-loop
 loop-less c = omega arith
 
 loop-again : tie.Need-loop-again Inv-loop μ-loop
-loop-again c = let s = c .before .before .before .before .before .before .args in let l = c .before .before .before .loop in (omega arith, below-next (fails (rowRefused (now (s .configuration)) (now (s .block)) (s .start))) (l .i) (l .inv .1) (ap not (le-ltb (rowOffending (now (s .configuration)) (now (s .block)) (s .start) (l .i)) 4 (rw (c .before .row-offending .ensures) at (c .if1 .left)))))
+loop-again c = let s = c .before .before .before .before .before .before .args in let l = c .before .before .before .loop in (omega arith, below-next (fails (refusedIn (rowOffending (now (s .configuration)) (now (s .block)) (s .start)))) (l .i) (l .inv .1) (ap not (le-ltb (rowOffending (now (s .configuration)) (now (s .block)) (s .start) (l .i)) 4 (rw (c .before .row-offending .ensures) at (c .if1 .left)))))
 
 row-place-requires-2 : tie.Need-row-place-requires-2 Inv-loop μ-loop
 row-place-requires-2 c κs = search needs

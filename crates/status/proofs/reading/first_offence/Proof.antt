@@ -9,17 +9,17 @@ use mathlib.Core.List.{[], _∷_}
 use mir.Val.{Fits}
 use mir.Syntax.{w8}
 use borrow.Author.Tests.{eq-eqb, ne-eqb, le-ltb}
-use Rattle.bits.specs.Choice.{allBelow}
+use Rattle.bits.specs.Choice.{allBelow, refusedIn}
 use Rattle.bits.specs.Bits.{only}
 use Rattle.bits.proofs.Logic.{fails, below-next}
 use Rattle.bits.proofs.Halves.{mask}
-use Rattle.status.specs.Read.{slotOffending, slotRefused}
+use Rattle.status.specs.Read.{slotOffending}
 use Rattle.status.proofs.Turned.{first-byte-refused, slot-refused, none-refused}
 use Rattle.status.proofs.reading.first_offence.Statement.{statement}
 use Rattle.status.proofs.reading.first_offence.Tie as tie
 
 abbrev Inv-loop : tie.InvT-loop
-Inv-loop configuration page n i₀ i = (i ≤ n) × (allBelow (fails (slotRefused configuration page)) i ≡ true)
+Inv-loop configuration page n i₀ i = (i ≤ n) × (allBelow (fails (refusedIn (slotOffending configuration page))) i ≡ true)
 
 abbrev μ-loop : tie.MeasureT-loop
 μ-loop configuration page n i₀ i = n - i
@@ -55,7 +55,7 @@ loop-less : tie.Need-loop-less Inv-loop μ-loop
 loop-less c = omega arith
 
 loop-again : tie.Need-loop-again Inv-loop μ-loop
-loop-again c = let s = c .before .before .before .before .before .before .before .before .args in let l = c .before .before .before .loop in (omega arith, below-next (fails (slotRefused (now (s .configuration)) (now (s .page)))) (l .i) (l .inv .1) (ap not (le-ltb (slotOffending (now (s .configuration)) (now (s .page)) (l .i)) 4 (rw (c .before .slot-offending .ensures) at (c .if2 .left)))))
+loop-again c = let s = c .before .before .before .before .before .before .before .before .args in let l = c .before .before .before .loop in (omega arith, below-next (fails (refusedIn (slotOffending (now (s .configuration)) (now (s .page))))) (l .i) (l .inv .1) (ap not (le-ltb (slotOffending (now (s .configuration)) (now (s .page)) (l .i)) 4 (rw (c .before .slot-offending .ensures) at (c .if2 .left)))))
 
 slot-place-requires-2 : tie.Need-slot-place-requires-2 Inv-loop μ-loop
 slot-place-requires-2 c κs = search needs

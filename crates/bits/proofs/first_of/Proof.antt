@@ -1,8 +1,8 @@
--- `shown::first_of` meets its contract. Assumes nothing.
+-- `bits::first_of` meets its contract. Assumes nothing.
 use borrow.Author.Tests.{not-true, not-false}
-use Rattle.shown.specs.Status.{firstOf}
-use Rattle.shown.proofs.first_of.Statement.{statement}
-use Rattle.shown.proofs.first_of.Tie as tie
+use Rattle.bits.specs.Choice.{firstOf}
+use Rattle.bits.proofs.first_of.Statement.{statement}
+use Rattle.bits.proofs.first_of.Tie as tie
 
 returns : tie.Need-returns
 unfolding firstOf

@@ -1,0 +1,100 @@
+-- What a control page makes of one element and of all, from what the calls say. Assumes nothing.
+use mathlib.Core.Path.{_≡_, refl, sym, ap, ap₂, _∙_}
+use mathlib.Core.Bool.{true, false}
+use mathlib.Core.List.{List}
+use Prim.Native.Nat.{ℕ, _+_, _<_, _≤_}
+use native.Mathlib.Nat.{add-zero}
+use native.Mathlib.Numerals.{add-one}
+use native.Mathlib.Omega.{arith}
+use lib.ListN.{length}
+use Rattle.bits.specs.Choice.{pick}
+use Rattle.bits.specs.Places.{fourAt, putFour, foursPut}
+use Rattle.bits.proofs.Logic.{pick-yes, pick-no}
+use Rattle.bits.proofs.Fours.{put-same, rows-alike, length-fours}
+use Rattle.bits.proofs.Rows.{joined-four}
+use Rattle.kinds.specs.declared.types.Kind.{Kind}
+use Rattle.kinds.specs.declared.settings.Settings.{Settings}
+use Rattle.kinds.specs.declared.control.Control.{Control}
+use Rattle.kinds.specs.Settings.{settingsOf, settingsBytes}
+use Rattle.kinds.specs.Control.{controlOf, chosen, acted, settled}
+use Rattle.kinds.proofs.Settled.{settled-length}
+use Rattle.refusals.specs.declared.Answer.{Answer}
+use Rattle.refusals.specs.declared.Refusal.{Refusal}
+use Rattle.refusals.specs.declared.Answer.the-variants.{Accepted, Refused}
+use Rattle.shelf.specs.Limits.{elementPlace}
+use Rattle.shelf.specs.Types.{elementsOf}
+use Rattle.shelf.specs.Elements.{settingsAt, settingsPut}
+use Rattle.opening.proofs.Fronts.{front}
+use Rattle.opening.proofs.Changed.{front-after, row-later}
+use Rattle.pages.specs.declared.places.Places.{Places}
+use Rattle.pages.specs.Places.{placesOf}
+use Rattle.pages.proofs.Paired.{places-alike}
+use Rattle.control.specs.Asked.{controlAsked, valid}
+use Rattle.control.specs.Brought.{actingAt, settingsAfter, broughtTo, settingsIn, withSettings}
+
+-- one element
+module _ (s p : List ℕ) (j : ℕ) {at : Places} {a b : List ℕ} {overall own c : Control} (q : at ≡ placesOf s j) (ha : a ≡ fourAt p (at .overall))
+    (u : overall ≡ controlOf (at .kind) a) (hb : b ≡ fourAt p (at .own)) (v : own ≡ controlOf (at .kind) b) (w : c ≡ chosen overall own) where
+  acting : c ≡ actingAt p (placesOf s j)
+  acting = w ∙ rw (u, v, ha, hb, q)
+
+  pub left-alone : c .select ≡ false → s ≡ settingsPut s j (settingsAfter s p j)
+  unfolding settingsAfter settled settingsAt settingsPut
+  left-alone e =
+      let h : actingAt p (placesOf s j) .select ≡ false = rw acting at e in
+      sym (ap (putFour s (elementPlace j)) (pick-no _ _ _ h) ∙ put-same s (elementPlace j))
+
+  pub acted-on : {e f o : List ℕ} {x y : Settings} → c .select ≡ true → e ≡ settingsAt s j → x ≡ settingsOf (at .kind) e → y ≡ acted c x
+      → f ≡ settingsBytes (at .kind) y → o ≡ settingsPut s j f → o ≡ settingsPut s j (settingsAfter s p j)
+  unfolding settingsAfter settled
+  acted-on {e} {f} t he hx hy hf ho =
+      let g : f ≡ settled (at .kind) c (settingsAt s j) = hf ∙ rw (hy, hx, he) (sym (pick-yes _ _ _ t)) in
+      let k : at .kind ≡ placesOf s j .kind = ap (λ (z : Places). z .kind) q in
+      ho ∙ ap (settingsPut s j) (g ∙ ap₂ (λ (z : Kind) (d : Control). settled z d (settingsAt s j)) k acting)
+
+pub settings-place : (j : ℕ) → elementPlace j ≡ elementPlace j + 0
+settings-place j = sym (add-zero (elementPlace j))
+
+-- one element after the other
+module _ (s p : List ℕ) where
+  pub after-length : (j : ℕ) → length (settingsAfter s p j) ≡ 4
+  unfolding settingsAfter settingsAt
+  after-length j = settled-length (placesOf s j .kind) (actingAt p (placesOf s j)) (settingsAt s j) refl
+
+  abbrev pub partly : ℕ → List ℕ
+  partly n = foursPut elementPlace (settingsAfter s p) s n
+
+  -- those acted on already do not change what is made of the next
+  same-after : (j : ℕ) → j < elementsOf s → settingsAfter (partly j) p j ≡ settingsAfter s p j
+  unfolding settingsAfter settingsAt
+  same-after j l =
+      let e = front-after elementPlace 0 settings-place (omega arith) (settingsAfter s p) s j in
+      rw (places-alike s (partly j) e j l, row-later elementPlace 0 settings-place (omega arith) (settingsAfter s p) s j j (omega arith))
+
+  pub act-next : (j : ℕ) {x y : List ℕ} → j < elementsOf s → x ≡ partly j → y ≡ settingsPut x j (settingsAfter x p j) → y ≡ partly (j + 1)
+  unfolding settingsPut
+  act-next j l e h = h ∙ rw (add-one, e) (ap (putFour (partly j) (elementPlace j)) (same-after j l))
+
+  pub partly-length : (n : ℕ) {x : List ℕ} → x ≡ partly n → length x ≡ length s
+  partly-length n e = ap length e ∙ length-fours elementPlace (settingsAfter s p) s n
+
+  pub brought-row : (j : ℕ) → j < elementsOf s → settingsIn (broughtTo s p) j ≡ settingsAfter s p j
+  unfolding broughtTo
+  brought-row j l = joined-four (settingsAfter s p) after-length (elementsOf s) j l
+
+  pub all-acted : (n : ℕ) {x : List ℕ} → n ≡ elementsOf s → x ≡ partly n → x ≡ withSettings s (broughtTo s p)
+  unfolding withSettings
+  all-acted n q e =
+      e
+      ∙ ap partly q
+      ∙ rows-alike elementPlace (settingsAfter s p) (settingsIn (broughtTo s p)) s (elementsOf s) (λ j l. sym (brought-row j l))
+
+  -- the call as a whole
+  module _ {a : Answer} (h : a ≡ controlAsked s p) where
+    pub refused-after : {r : Refusal} → a ≡ Refused r → s ≡ pick (valid s p) (withSettings s (broughtTo s p)) s
+    unfolding valid
+    refused-after u = sym (rw (← h, u))
+
+    pub accepted-after : {x : List ℕ} → a ≡ Accepted → x ≡ withSettings s (broughtTo s p) → x ≡ pick (valid s p) (withSettings s (broughtTo s p)) s
+    unfolding valid
+    accepted-after u e = e ∙ sym (rw (← h, u))

@@ -1,0 +1,50 @@
+// Which control pages a shelf accepts.
+use kinds::control::Control;
+use pages::slots;
+use refusals::Answer;
+use refusals::Refusal;
+ghost use mathlib.Core.Path.{_≡_};
+ghost use Rattle.control.specs.Asked.{slotOffending, offence, controlAsked};
+
+const CODE: u8 = 0x02;
+
+// The first byte of slot i that is refused; 4 if none is.
+fn slot_offending(shelf: &[u8], page: &[u8], i: u16) -> u8
+    ensures { λ r. ⌜ r ≡ slotOffending (now (shelf .entry)) (now (page .entry)) i ⌝ }
+{
+    let at = slots::slot_at(shelf, i);
+    let kind = at.kind;
+    Control::offending(kind, bits::four_at(page, slots::slot_place(i)))
+}
+
+// The first byte of the page, in page order, that is refused; the page's length if none is.
+fn first_offence(shelf: &[u8], page: &[u8], n: u16) -> u32
+    ensures { λ r. ⌜ r ≡ offence (now (shelf .entry)) (now (page .entry)) n ⌝ }
+{
+    if bits::byte_at(page, 1) & 0xf0 != 0 {
+        return 1;
+    }
+    let mut i: u16 = 0;
+    while i < n {
+        let k = slot_offending(shelf, page, i);
+        if k < 4 {
+            return slots::slot_place(i) + k as u32;
+        }
+        i += 1;
+    }
+    slots::slot_place(n)
+}
+
+pub fn test(shelf: &[u8], page: &[u8]) -> Answer
+    ensures { λ r. ⌜ r ≡ controlAsked (now (shelf .entry)) (now (page .entry)) ⌝ }
+{
+    let asked = pages::asked::page(shelf, page, CODE);
+    let Answer::Accepted = asked else {
+        return asked;
+    };
+    let n = slots::count(shelf);
+    if first_offence(shelf, page, n) != slots::slot_place(n) {
+        return Answer::Refused(Refusal::NotAllowed);
+    }
+    asked
+}

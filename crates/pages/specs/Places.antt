@@ -1,0 +1,17 @@
+-- What a page has for element j: a slot of its own, and the overall slot of its type. Assumes nothing.
+use mathlib.Core.List.{List}
+use Prim.Native.Nat.{ℕ, _+_}
+use Rattle.shelf.specs.Types.{typeOf, kindAt}
+use Rattle.pages.specs.declared.places.Places.{Places}
+use Rattle.pages.specs.Slots.{startOf, slotPlace}
+
+-- behind the elements before it and the overall slots of the types up to its own
+abbrev pub ownSlot : List ℕ → ℕ → ℕ
+ownSlot c j = j + typeOf c j + 1
+
+-- the first slot of its type
+abbrev pub overallSlot : List ℕ → ℕ → ℕ
+overallSlot c j = startOf c (typeOf c j)
+
+unfoldable pub placesOf : List ℕ → ℕ → Places
+placesOf c j = record { kind = kindAt c j; overall = slotPlace (overallSlot c j); own = slotPlace (ownSlot c j) }

@@ -3,14 +3,17 @@ use mathlib.Core.Path.{_≡_, refl, sym, ap, _∙_}
 use mathlib.Core.Bool.{Bool, true, false}
 use mathlib.Core.List.{List}
 use mathlib.Core.Logic.{_⊎_, inl, inr, ⊎-elim}
-use Prim.Native.Nat.{ℕ, zero, suc, _+_, _<_, _≤_}
+use Prim.Native.Nat.{ℕ, zero, suc, _+_, _*_, _<_, _≤_}
 use native.Mathlib.Nat.{not-suc-le-zero, le-of-suc-le-suc, eq-or-lt-of-le}
+use native.Mathlib.Numerals.{add-one}
 use native.Mathlib.Omega.{arith}
 use lib.Dec.{leb}
 use lib.ListN.{length, getD, take, set}
 use lib.Seq.{set-getD, take-set-le}
 use Rattle.bits.specs.Choice.{pick}
 use Rattle.bits.specs.Places.{fourAt, putFour, foursPut}
+use Rattle.bits.specs.Rows.{joined}
+use Rattle.bits.proofs.Rows.{joined-four}
 use Rattle.bits.proofs.Placed.{Outside, length-put, put-other, put-back}
 
 -- the four bytes from m on are none of the four from k on
@@ -108,7 +111,19 @@ module _ (at : ℕ → ℕ) (f : ℕ → List ℕ) (s : List ℕ) where
       ∙ ap (putFour s (at n)) (h n (omega arith))
       ∙ put-same s (at n)
 
--- the same rows put
-pub rows-alike : (at : ℕ → ℕ) (f g : ℕ → List ℕ) (s : List ℕ) (n : ℕ) → ((k : ℕ) → k < n → f k ≡ g k) → foursPut at f s n ≡ foursPut at g s n
+-- a loop puts one row more
+module _ (at : ℕ → ℕ) (f : ℕ → List ℕ) (s : List ℕ) (n : ℕ) {o : List ℕ} (p : o ≡ foursPut at f s n) where
+  pub fours-next : {e r : List ℕ} {k : ℕ} → k ≡ at n → e ≡ f n → r ≡ putFour o k e → r ≡ foursPut at f s (n + 1)
+  fours-next q h e = e ∙ rw (add-one, p, q, h)
+
+  pub fours-length : length o ≡ length s
+  fours-length = ap length p ∙ length-fours at f s n
+
+rows-alike : (at : ℕ → ℕ) (f g : ℕ → List ℕ) (s : List ℕ) (n : ℕ) → ((k : ℕ) → k < n → f k ≡ g k) → foursPut at f s n ≡ foursPut at g s n
 rows-alike at f g s zero h = refl
 rows-alike at f g s (suc n) h = rw (rows-alike at f g s n (λ k l. h k (omega arith)), h n (omega arith))
+
+-- the rows as one list
+pub fours-joined : (at : ℕ → ℕ) (f : ℕ → List ℕ) → ((k : ℕ) → length (f k) ≡ 4) → (s : List ℕ) (n : ℕ)
+    → foursPut at f s n ≡ foursPut at (λ k. fourAt (joined f n) (4 * k)) s n
+fours-joined at f h s n = rows-alike at f (λ k. fourAt (joined f n) (4 * k)) s n (λ k l. sym (joined-four f h n k l))

@@ -4,14 +4,12 @@ use mathlib.Core.Bool.{true, false}
 use mathlib.Core.List.{List}
 use Prim.Native.Nat.{ℕ, _+_, _<_, _≤_}
 use native.Mathlib.Nat.{add-zero}
-use native.Mathlib.Numerals.{add-one}
 use native.Mathlib.Omega.{arith}
 use lib.ListN.{length}
 use Rattle.bits.specs.Choice.{pick}
 use Rattle.bits.specs.Places.{fourAt, putFour, foursPut}
 use Rattle.bits.proofs.Logic.{pick-yes, pick-no}
-use Rattle.bits.proofs.Fours.{put-same, rows-alike, length-fours}
-use Rattle.bits.proofs.Rows.{joined-four}
+use Rattle.bits.proofs.Fours.{put-same, fours-next, fours-length, fours-joined}
 use Rattle.kinds.specs.declared.types.Kind.{Kind}
 use Rattle.kinds.specs.declared.settings.Settings.{Settings}
 use Rattle.kinds.specs.declared.control.Control.{Control}
@@ -30,7 +28,7 @@ use Rattle.pages.specs.declared.places.Places.{Places}
 use Rattle.pages.specs.Places.{placesOf}
 use Rattle.pages.proofs.Paired.{places-alike}
 use Rattle.control.specs.Asked.{controlAsked, valid}
-use Rattle.control.specs.Brought.{actingAt, settingsAfter, broughtTo, settingsIn, withSettings}
+use Rattle.control.specs.Brought.{actingAt, settingsAfter, broughtTo, withSettings}
 
 -- one element
 module _ (s p : List ℕ) (j : ℕ) {at : Places} {a b : List ℕ} {overall own c : Control} (q : at ≡ placesOf s j) (ha : a ≡ fourAt p (at .overall))
@@ -73,21 +71,15 @@ module _ (s p : List ℕ) where
 
   pub act-next : (j : ℕ) {x y : List ℕ} → j < elementsOf s → x ≡ partly j → y ≡ settingsPut x j (settingsAfter x p j) → y ≡ partly (j + 1)
   unfolding settingsPut
-  act-next j l e h = h ∙ rw (add-one, e) (ap (putFour (partly j) (elementPlace j)) (same-after j l))
+  act-next j {x} l e h =
+      fours-next elementPlace (settingsAfter s p) s j e refl (ap (λ (z : List ℕ). settingsAfter z p j) e ∙ same-after j l) h
 
   pub partly-length : (n : ℕ) {x : List ℕ} → x ≡ partly n → length x ≡ length s
-  partly-length n e = ap length e ∙ length-fours elementPlace (settingsAfter s p) s n
-
-  pub brought-row : (j : ℕ) → j < elementsOf s → settingsIn (broughtTo s p) j ≡ settingsAfter s p j
-  unfolding broughtTo
-  brought-row j l = joined-four (settingsAfter s p) after-length (elementsOf s) j l
+  partly-length n e = fours-length elementPlace (settingsAfter s p) s n e
 
   pub all-acted : (n : ℕ) {x : List ℕ} → n ≡ elementsOf s → x ≡ partly n → x ≡ withSettings s (broughtTo s p)
-  unfolding withSettings
-  all-acted n q e =
-      e
-      ∙ ap partly q
-      ∙ rows-alike elementPlace (settingsAfter s p) (settingsIn (broughtTo s p)) s (elementsOf s) (λ j l. sym (brought-row j l))
+  unfolding withSettings broughtTo
+  all-acted n q e = e ∙ ap partly q ∙ fours-joined elementPlace (settingsAfter s p) after-length s (elementsOf s)
 
   -- the call as a whole
   module _ {a : Answer} (h : a ≡ controlAsked s p) where

@@ -2,13 +2,11 @@
 use mathlib.Core.Path.{_≡_, refl, sym, ap, _∙_}
 use mathlib.Core.List.{List, [], _∷_, _++_, append-assoc, append-nil}
 use Prim.Native.Nat.{ℕ, zero, suc, _+_, _*_, _≤_}
-use native.Mathlib.Numerals.{add-one}
 use native.Mathlib.Omega.{arith}
 use lib.ListN.{length, getD, drop, length-append}
 use lib.Seq.{getD-append-add}
 use Rattle.bits.specs.Places.{fourAt, putFour}
 use Rattle.bits.specs.Rows.{joined}
-use Rattle.bits.proofs.Placed.{length-put}
 use Rattle.bits.proofs.Rows.{as-four, length-joined, joined-get, put-next}
 use Rattle.pages.specs.Slots.{slotPlace, slotsPut}
 use Rattle.pages.specs.Header.{header, headPut}
@@ -17,15 +15,6 @@ use Rattle.pages.proofs.Headed.{head-put}
 pub length-header : (c : List ℕ) (code own n : ℕ) → length (header c code own n) ≡ 8
 unfolding header
 length-header c code own n = refl
-
--- one slot more is put
-pub slots-next : (f : ℕ → List ℕ) (out : List ℕ) (n : ℕ) {o e r : List ℕ} {k : ℕ} → o ≡ slotsPut f out n → k ≡ slotPlace n → e ≡ f n → r ≡ putFour o k e
-    → r ≡ slotsPut f out (n + 1)
-slots-next f out n p q h e = e ∙ rw (add-one, p, q, h)
-
-pub length-slots : (f : ℕ → List ℕ) (out : List ℕ) (n : ℕ) {o : List ℕ} → o ≡ slotsPut f out n → length o ≡ length out
-length-slots f out zero e = ap length e
-length-slots f out (suc n) e = ap length e ∙ length-put (slotsPut f out n) (slotPlace n) (f n) ∙ length-slots f out n refl
 
 module _ (f : ℕ → List ℕ) (h : (i : ℕ) → length (f i) ≡ 4) where
   -- slots put behind a header of eight bytes

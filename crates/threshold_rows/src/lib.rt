@@ -74,7 +74,7 @@ fn row_had(configuration: &[u8], block: &[u8], start: u16, i: u16) -> bool
     thresholds::are_had(kind, row_at(block, start, i))
 }
 
-fn all_had(configuration: &[u8], block: &[u8], start: u16, n: u16) -> bool
+pub fn all_had(configuration: &[u8], block: &[u8], start: u16, n: u16) -> bool
     ensures { λ r. ⌜ r ≡ allHad (now (configuration .entry)) (now (block .entry)) start n ⌝ }
 {
     let mut i: u16 = 0;

@@ -4,8 +4,8 @@ use Prim.Native.Nat.{_-_, _≤_}
 use native.Mathlib.Omega.{arith}
 use denote.Ref.{now}
 use borrow.Author.Needs.{needs}
-use Rattle.pages.specs.Slots.{slotsPut}
-use Rattle.pages.proofs.Filled.{slots-next, length-slots}
+use Rattle.pages.specs.Slots.{slotPlace, slotsPut}
+use Rattle.bits.proofs.Fours.{fours-next, fours-length}
 use Rattle.status.specs.Page.{slotRow}
 use Rattle.status_record.specs.Entries.{entryAt}
 use Rattle.status.proofs.Turned.{row-is}
@@ -43,10 +43,10 @@ loop-less : tie.Need-loop-less Inv-loop μ-loop
 loop-less c = omega arith
 
 loop-again : tie.Need-loop-again Inv-loop μ-loop
-loop-again c = let s = c .before .before .before .before .before .before .before .before .before .before .before .before .before .args in let l = c .before .before .before .before .before .before .before .before .before .loop in (omega arith, slots-next (slotRow (now (s .configuration)) (entryAt (now (s .fields)))) (now (s .out)) (l .i) (l .inv .1) (c .before .before .before .slot-place .ensures) (row-is (now (s .configuration)) (entryAt (now (s .fields))) (l .i) (c .before .before .before .before .before .before .before .slot-at .ensures) (c .before .before .before .before .before .before .entry-at .ensures) (c .before .before .before .before .before .slot-bytes .ensures)) (c .before .before .put-four .ensures))
+loop-again c = let s = c .before .before .before .before .before .before .before .before .before .before .before .before .before .args in let l = c .before .before .before .before .before .before .before .before .before .loop in (omega arith, fours-next slotPlace (slotRow (now (s .configuration)) (entryAt (now (s .fields)))) (now (s .out)) (l .i) (l .inv .1) (c .before .before .before .slot-place .ensures) (row-is (now (s .configuration)) (entryAt (now (s .fields))) (l .i) (c .before .before .before .before .before .before .before .slot-at .ensures) (c .before .before .before .before .before .before .entry-at .ensures) (c .before .before .before .before .before .slot-bytes .ensures)) (c .before .before .put-four .ensures))
 
 same-length : tie.Need-same-length Inv-loop μ-loop
-same-length c = let s = c .before .before .before .before .before .args in length-slots (slotRow (now (s .configuration)) (entryAt (now (s .fields)))) (now (s .out)) (c .before .loop .i) (c .before .loop .inv .1)
+same-length c = let s = c .before .before .before .before .before .args in fours-length slotPlace (slotRow (now (s .configuration)) (entryAt (now (s .fields)))) (now (s .out)) (c .before .loop .i) (c .before .loop .inv .1)
 
 returns : tie.Need-returns Inv-loop μ-loop
 returns c = let s = c .before .before .before .before .before .args in let l = c .before .loop in let e : l .i ≡ s .n = omega arith in l .inv .1 ∙ ap (slotsPut (slotRow (now (s .configuration)) (entryAt (now (s .fields)))) (now (s .out))) e

@@ -4,8 +4,8 @@ use Prim.Native.Nat.{_-_, _≤_}
 use native.Mathlib.Omega.{arith}
 use denote.Ref.{now}
 use borrow.Author.Needs.{needs}
-use Rattle.pages.specs.Slots.{slotsPut}
-use Rattle.pages.proofs.Filled.{slots-next, length-slots}
+use Rattle.pages.specs.Slots.{slotPlace, slotsPut}
+use Rattle.bits.proofs.Fours.{fours-next, fours-length}
 use Rattle.threshold_in.specs.Page.{thresholdRow}
 use Rattle.threshold_in.proofs.page.put_slots.Statement.{statement}
 use Rattle.threshold_in.proofs.page.put_slots.Tie as tie
@@ -35,10 +35,10 @@ loop-less : tie.Need-loop-less Inv-loop μ-loop
 loop-less c = omega arith
 
 loop-again : tie.Need-loop-again Inv-loop μ-loop
-loop-again c = let s = c .before .before .before .before .before .before .before .before .before .before .args in let l = c .before .before .before .before .before .before .before .loop in (omega arith, slots-next (thresholdRow (now (s .shelf))) (now (s .out)) (l .i) (l .inv .1) (c .before .before .before .before .slot-place .ensures) (c .before .before .before .threshold-row .ensures) (c .before .before .put-four .ensures))
+loop-again c = let s = c .before .before .before .before .before .before .before .before .before .before .args in let l = c .before .before .before .before .before .before .before .loop in (omega arith, fours-next slotPlace (thresholdRow (now (s .shelf))) (now (s .out)) (l .i) (l .inv .1) (c .before .before .before .before .slot-place .ensures) (c .before .before .before .threshold-row .ensures) (c .before .before .put-four .ensures))
 
 same-length : tie.Need-same-length Inv-loop μ-loop
-same-length c = let s = c .before .before .before .before .args in length-slots (thresholdRow (now (s .shelf))) (now (s .out)) (c .before .loop .i) (c .before .loop .inv .1)
+same-length c = let s = c .before .before .before .before .args in fours-length slotPlace (thresholdRow (now (s .shelf))) (now (s .out)) (c .before .loop .i) (c .before .loop .inv .1)
 
 returns : tie.Need-returns Inv-loop μ-loop
 returns c = let s = c .before .before .before .before .args in let l = c .before .loop in let e : l .i ≡ s .n = omega arith in l .inv .1 ∙ ap (slotsPut (thresholdRow (now (s .shelf))) (now (s .out))) e

@@ -120,6 +120,19 @@ uint8_t ses_rewrite_thresholds(const uint8_t *configuration, size_t configuratio
                                const struct ses_thresholds *record,
                                uint8_t *out, size_t out_length, uint32_t *written);
 
+/* Apply an enclosure control page (02h) to the shelf.  Refusals 1 to 6.
+ * An individual element with SELECT acts alone on its element. One without leaves its element to the overall
+ * element of the type, if that has SELECT, else to nothing; its other bits have no effect. PRDFAIL, DISABLED,
+ * IDENT, FAIL and a fan's ON become the bits of what acts. RST SWAP 1 clears SWAP, 0 keeps it. Speed code 0
+ * keeps a fan's speed. */
+uint8_t ses_apply_control(uint8_t *shelf, size_t shelf_length, const uint8_t *page, size_t page_length);
+
+/* Apply a threshold page (05h, Out) to the shelf.  Refusals 1 to 8.
+ * For each of an element's four thresholds the individual byte is taken if it is not zero, else the overall
+ * byte of the type if that is not zero, else the stored one stays. If one element would break the order of
+ * its thresholds, the whole page is refused. */
+uint8_t ses_apply_thresholds(uint8_t *shelf, size_t shelf_length, const uint8_t *page, size_t page_length);
+
 #ifdef __cplusplus
 }
 #endif

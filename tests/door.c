@@ -5,8 +5,6 @@
  * bytes of `written`, and then the buffer that it may change.
  *
  *   c shelf                        ses_check
- *   k shelf overall own            trial_control, and the shelf
- *   t shelf overall own            trial_thresholds, and the shelf
  *   A shelf out                    ses_write_configuration, written, and out
  *   B shelf out                    ses_write_status, written, and out
  *   C shelf out                    ses_write_thresholds, written, and out
@@ -16,6 +14,8 @@
  *   G configuration out            ses_rewrite_configuration, written, and out
  *   H configuration record out     ses_rewrite_status, written, and out
  *   I configuration record out     ses_rewrite_thresholds, written, and out
+ *   J shelf page                   ses_apply_control, and the shelf
+ *   K shelf page                   ses_apply_thresholds, and the shelf
  *   .                              all answers are sent
  */
 #include "ses.h"
@@ -26,11 +26,6 @@
 
 _Static_assert(sizeof(struct ses_status) == 1156, "a status record has no gaps");
 _Static_assert(sizeof(struct ses_thresholds) == 292, "a threshold record has no gaps");
-
-uint8_t trial_control(uint8_t *shelf, size_t shelf_length, const uint8_t *overall, size_t overall_length,
-                      const uint8_t *own, size_t own_length);
-uint8_t trial_thresholds(uint8_t *shelf, size_t shelf_length, const uint8_t *overall, size_t overall_length,
-                         const uint8_t *own, size_t own_length);
 
 #define GUARD_LENGTH 64
 #define GUARD_BYTE 0x5A
@@ -43,7 +38,7 @@ struct buffer {
     size_t room;
 };
 
-static struct buffer shelf, overall, own, first, second, lent;
+static struct buffer first, second, lent;
 static uint32_t written;
 
 static void fail(const char *why)
@@ -125,15 +120,6 @@ static void send_written(void)
         putchar(written >> shift & 0xFF);
 }
 
-static void answer_on_shelf(uint8_t (*call)(uint8_t *, size_t, const uint8_t *, size_t, const uint8_t *, size_t))
-{
-    take(&shelf);
-    take(&overall);
-    take(&own);
-    putchar(call(shelf.bytes, shelf.length, overall.bytes, overall.length, own.bytes, own.length));
-    fwrite(shelf.bytes, 1, shelf.length, stdout);
-}
-
 static void answer_write(uint8_t (*call)(const uint8_t *, size_t, uint8_t *, size_t, uint32_t *))
 {
     take_input(&first);
@@ -206,20 +192,23 @@ static void answer_rewrite_thresholds(void)
     send_lent();
 }
 
+static void answer_apply(uint8_t (*call)(uint8_t *, size_t, const uint8_t *, size_t))
+{
+    take(&lent);
+    take_input(&first);
+    putchar(call(lent.bytes, lent.length, first.bytes, first.length));
+    check_input(&first);
+    send_lent();
+}
+
 int main(void)
 {
     int call;
     while ((call = getchar()) != EOF) {
         switch (call) {
         case 'c':
-            take(&shelf);
-            putchar(ses_check(shelf.bytes, shelf.length));
-            break;
-        case 'k':
-            answer_on_shelf(trial_control);
-            break;
-        case 't':
-            answer_on_shelf(trial_thresholds);
+            take(&first);
+            putchar(ses_check(first.bytes, first.length));
             break;
         case 'A':
             answer_write(ses_write_configuration);
@@ -247,6 +236,12 @@ int main(void)
             break;
         case 'I':
             answer_rewrite_thresholds();
+            break;
+        case 'J':
+            answer_apply(ses_apply_control);
+            break;
+        case 'K':
+            answer_apply(ses_apply_thresholds);
             break;
         case '.':
             fflush(stdout);

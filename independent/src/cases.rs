@@ -19,8 +19,8 @@ pub type Offer<'a> = &'a mut dyn FnMut(&[u8], Intent);
 const TYPES_AT: usize = 40;
 const SLOTS_AT: usize = 44;
 const SLOT_BYTES: usize = 36;
-const ELEMENTS_AT: usize = 332;
-const ELEMENT_BYTES: usize = 16;
+pub const ELEMENTS_AT: usize = 332;
+pub const ELEMENT_BYTES: usize = 16;
 const LONGEST_PAGE: usize = 65_539;
 
 pub fn offer_all(rng: &mut Rng, offer: Offer) {
@@ -216,7 +216,7 @@ fn any_threshold(element: &mut Element, rng: &mut Rng) {
         low_threshold(element, rng);
         return;
     }
-    let thresholds = thresholds_of(element);
+    let thresholds = element.thresholds_mut();
     if rng.one_in(2) {
         thresholds.high_critical = rng.nonzero_byte();
     } else {
@@ -225,7 +225,7 @@ fn any_threshold(element: &mut Element, rng: &mut Rng) {
 }
 
 fn low_threshold(element: &mut Element, rng: &mut Rng) {
-    let thresholds = thresholds_of(element);
+    let thresholds = element.thresholds_mut();
     if rng.one_in(2) {
         thresholds.low_warning = rng.nonzero_byte();
     } else {
@@ -234,27 +234,18 @@ fn low_threshold(element: &mut Element, rng: &mut Rng) {
 }
 
 fn high_order(element: &mut Element, rng: &mut Rng) {
-    let thresholds = thresholds_of(element);
+    let thresholds = element.thresholds_mut();
     (thresholds.high_warning, thresholds.high_critical) = unequal_pair(rng);
 }
 
 fn low_order(element: &mut Element, rng: &mut Rng) {
     let kind = element.kind();
-    let thresholds = thresholds_of(element);
+    let thresholds = element.thresholds_mut();
     let (greater, smaller) = unequal_pair(rng);
     (thresholds.low_critical, thresholds.low_warning) = match kind {
         Kind::Voltage => (smaller, greater),
         _ => (greater, smaller),
     };
-}
-
-pub fn thresholds_of(element: &mut Element) -> &mut Thresholds {
-    match element {
-        Element::Cooling { thresholds, .. }
-        | Element::Temperature { thresholds, .. }
-        | Element::Voltage { thresholds, .. }
-        | Element::Current { thresholds, .. } => thresholds,
-    }
 }
 
 fn nominal_of(element: &mut Element) -> &mut u16 {

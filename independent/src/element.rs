@@ -8,96 +8,69 @@ use crate::shown::Shown;
 #[derive(Clone, Copy, Debug, PartialEq, Eq)]
 pub struct ReservedBit;
 
+/// What a selected control element asks for. ON and a speed are asked of fans only.
 #[derive(Clone, Copy)]
-struct Request {
+pub struct Request {
     prdfail: bool,
     disable: bool,
     rst_swap: bool,
     rqst_ident: bool,
     rqst_fail: bool,
-}
-
-#[derive(Clone, Copy)]
-struct FanRequest {
-    common: Request,
     rqst_on: bool,
     speed_code: u8,
 }
 
-impl Element {
-    /// This element after a control page with these two control elements for it.
-    pub fn control(
-        mut self,
-        overall: [u8; 4],
-        individual: [u8; 4],
-    ) -> Result<Element, ReservedBit> {
-        match &mut self {
-            Element::Cooling { settings, .. } => {
-                let overall = FanRequest::decode(overall)?;
-                let individual = FanRequest::decode(individual)?;
-                if let Some(request) = choose(overall, individual) {
-                    *settings = request.act(*settings);
-                }
-            }
-            Element::Temperature { settings, .. }
-            | Element::Voltage { settings, .. }
-            | Element::Current { settings, .. } => {
-                let overall = Request::decode(overall)?;
-                let individual = Request::decode(individual)?;
-                if let Some(request) = choose(overall, individual) {
-                    *settings = request.act(*settings);
-                }
-            }
-        }
-        Ok(self)
-    }
-}
-
-/// Each side is none where SELECT is 0.
-fn choose<R>(overall: Option<R>, individual: Option<R>) -> Option<R> {
-    individual.or(overall)
-}
-
-/// None for an unselected element. A reserved bit is one that the request, formed again, lacks.
-fn decode<R>(
-    element: [u8; 4],
-    parse: fn([u8; 4]) -> R,
-    form: fn(&R) -> [u8; 4],
-) -> Result<Option<R>, ReservedBit> {
-    if !bit(element[0], 7) {
-        return Ok(None);
-    }
-    let request = parse(element);
-    if form(&request) == element {
-        Ok(Some(request))
-    } else {
-        Err(ReservedBit)
-    }
-}
-
 impl Request {
-    fn decode(element: [u8; 4]) -> Result<Option<Request>, ReservedBit> {
-        decode(element, Request::parse, Request::form)
+    /// None for an unselected element. A reserved bit is one that the request, formed again, lacks.
+    pub fn decode(kind: Kind, element: [u8; 4]) -> Result<Option<Request>, ReservedBit> {
+        if !bit(element[0], 7) {
+            return Ok(None);
+        }
+        let request = Request::parse(kind, element);
+        if request.form(kind) == element {
+            Ok(Some(request))
+        } else {
+            Err(ReservedBit)
+        }
     }
 
-    fn parse([byte0, byte1, _, _]: [u8; 4]) -> Request {
-        Request {
+    fn parse(kind: Kind, [byte0, byte1, _, byte3]: [u8; 4]) -> Request {
+        let of_sensor = Request {
             prdfail: bit(byte0, 6),
             disable: bit(byte0, 5),
             rst_swap: bit(byte0, 4),
             rqst_ident: bit(byte1, 7),
             rqst_fail: bit(byte1, 6),
+            rqst_on: false,
+            speed_code: 0,
+        };
+        match kind {
+            Kind::Cooling => Request {
+                rqst_fail: bit(byte3, 6),
+                rqst_on: bit(byte3, 5),
+                speed_code: byte3 % 8,
+                ..of_sensor
+            },
+            Kind::Temperature | Kind::Voltage | Kind::Current => of_sensor,
         }
     }
 
-    fn form(&self) -> [u8; 4] {
-        let byte1 = flag(self.rqst_ident, 7) + flag(self.rqst_fail, 6);
-        [self.selected_byte0(), byte1, 0, 0]
-    }
-
-    fn selected_byte0(&self) -> u8 {
+    fn form(&self, kind: Kind) -> [u8; 4] {
         let select = true;
-        flag(select, 7) + flag(self.prdfail, 6) + flag(self.disable, 5) + flag(self.rst_swap, 4)
+        let byte0 = flag(select, 7)
+            + flag(self.prdfail, 6)
+            + flag(self.disable, 5)
+            + flag(self.rst_swap, 4);
+        let ident = flag(self.rqst_ident, 7);
+        match kind {
+            Kind::Cooling => {
+                let byte3 = flag(self.rqst_fail, 6) + flag(self.rqst_on, 5) + self.speed_code;
+                [byte0, ident, 0, byte3]
+            }
+            Kind::Temperature | Kind::Voltage | Kind::Current => {
+                [byte0, ident + flag(self.rqst_fail, 6), 0, 0]
+            }
+        }
     }
 
     fn act(&self, stored: Settings) -> Settings {
@@ -109,41 +82,27 @@ impl Request {
             fail: self.rqst_fail,
         }
     }
-}
 
-impl FanRequest {
-    fn decode(element: [u8; 4]) -> Result<Option<FanRequest>, ReservedBit> {
-        decode(element, FanRequest::parse, FanRequest::form)
-    }
-
-    fn parse([byte0, byte1, _, byte3]: [u8; 4]) -> FanRequest {
-        FanRequest {
-            common: Request {
-                prdfail: bit(byte0, 6),
-                disable: bit(byte0, 5),
-                rst_swap: bit(byte0, 4),
-                rqst_ident: bit(byte1, 7),
-                rqst_fail: bit(byte3, 6),
-            },
-            rqst_on: bit(byte3, 5),
-            speed_code: byte3 % 8,
-        }
-    }
-
-    fn form(&self) -> [u8; 4] {
-        let byte1 = flag(self.common.rqst_ident, 7);
-        let byte3 = flag(self.common.rqst_fail, 6) + flag(self.rqst_on, 5) + self.speed_code;
-        [self.common.selected_byte0(), byte1, 0, byte3]
-    }
-
-    fn act(&self, stored: FanSettings) -> FanSettings {
+    fn act_on_fan(&self, stored: FanSettings) -> FanSettings {
         FanSettings {
-            common: self.common.act(stored.common),
+            common: self.act(stored.common),
             on: self.rqst_on,
             speed: match self.speed_code {
                 0 => stored.speed,
                 code => code,
             },
+        }
+    }
+}
+
+impl Element {
+    /// Does what is asked, by the one request that is chosen for this element.
+    pub fn obey(&mut self, request: Request) {
+        match self {
+            Element::Cooling { settings, .. } => *settings = request.act_on_fan(*settings),
+            Element::Temperature { settings, .. }
+            | Element::Voltage { settings, .. }
+            | Element::Current { settings, .. } => *settings = request.act(*settings),
         }
     }
 }

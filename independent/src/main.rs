@@ -3,7 +3,6 @@
 mod bits;
 mod cases;
 mod element;
-mod elements;
 mod library;
 mod pages;
 mod record;
@@ -21,12 +20,11 @@ fn main() -> ExitCode {
     let passed = match &command[..] {
         ["selftest"] => selftest::run(),
         ["shelf-a"] => stdout().write_all(&selftest::block_a()).is_ok(),
-        ["elements", library @ ..] if !library.is_empty() => elements::run(library),
         ["pages", library @ ..] if !library.is_empty() => pages::compare::run(library),
         ["shelves", library @ ..] if !library.is_empty() => shelves::run(library),
         _ => {
             eprintln!(
-                "usage: independent selftest | shelf-a | (elements | pages | shelves) PROGRAM [ARGUMENT]..."
+                "usage: independent selftest | shelf-a | (pages | shelves) PROGRAM [ARGUMENT]..."
             );
             return ExitCode::from(2);
         }

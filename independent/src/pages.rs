@@ -1,13 +1,17 @@
-//! The pages 01h, 02h and 05h, and what the readers of each hand back.
+//! The pages 01h, 02h and 05h: what the readers of each hand back, and what those that act do to a shelf.
 
 pub mod calls;
-mod cases;
+pub mod cases;
 pub mod compare;
 mod configuration;
+mod control;
+mod coverage;
 mod status;
+mod threshold_out;
 mod thresholds;
 
 use crate::record::Configuration;
+use std::iter::once;
 
 /// By the numbers of the rules.
 #[derive(Clone, Copy, Debug, PartialEq, Eq)]
@@ -81,6 +85,31 @@ impl ElementPage {
             byte1,
             elements: elements.to_vec(),
         })
+    }
+}
+
+/// The elements of a page that acts, for one type.
+struct TypeElements {
+    overall: [u8; 4],
+    individual: Vec<[u8; 4]>,
+}
+
+impl ElementPage {
+    /// One for each type of the configuration that the page was read under.
+    fn by_type(&self, configuration: &Configuration) -> Vec<TypeElements> {
+        let mut elements = self.elements.iter().copied();
+        let types = configuration.types.iter().map(|entry| TypeElements {
+            overall: elements.next().expect("an element for each place"),
+            individual: elements.by_ref().take(entry.count).collect(),
+        });
+        types.collect()
+    }
+}
+
+impl TypeElements {
+    /// The overall element first, as on the page.
+    fn in_order(&self) -> impl Iterator<Item = [u8; 4]> + '_ {
+        once(self.overall).chain(self.individual.iter().copied())
     }
 }
 

@@ -401,6 +401,15 @@ impl Element {
         }
     }
 
+    pub fn thresholds_mut(&mut self) -> &mut Thresholds {
+        match self {
+            Element::Cooling { thresholds, .. }
+            | Element::Temperature { thresholds, .. }
+            | Element::Voltage { thresholds, .. }
+            | Element::Current { thresholds, .. } => thresholds,
+        }
+    }
+
     fn bytes(&self) -> [u8; 16] {
         let (settings, reading, nominal) = match self {
             Element::Cooling {

@@ -1,18 +1,14 @@
 //! Checks this program alone: the paper's own numbers, and examples worked out by hand from its rules
 //! where it gives none.
 
+mod acting;
 mod pages;
 
-use crate::element::{Code, Limits, ReservedBit, Verdict};
+use crate::element::{Code, Limits, Verdict};
 use crate::record::{
     self, Element, FanSettings, Group, Identification, Kind, Settings, Shelf, Thresholds,
 };
 use std::fmt::Debug;
-
-const UNSELECTED: [u8; 4] = [0; 4];
-const SPEED_5: [u8; 4] = [0x80, 0x00, 0x00, 0x25];
-const IDENT: [u8; 4] = [0x80, 0x80, 0x00, 0x20];
-const RST_SWAP: [u8; 4] = [0x90, 0x00, 0x00, 0x20];
 
 #[derive(Default)]
 struct Checks {
@@ -22,9 +18,6 @@ struct Checks {
 
 pub fn run() -> bool {
     let mut checks = Checks::default();
-    fans_a_acting(&mut checks);
-    choosing(&mut checks);
-    reserved_bits(&mut checks);
     fan_status(&mut checks);
     temperature_verdicts(&mut checks);
     voltage_verdicts(&mut checks);
@@ -32,6 +25,7 @@ pub fn run() -> bool {
     thresholds(&mut checks);
     block_of_fans_a(&mut checks);
     pages::check(&mut checks);
+    acting::check(&mut checks);
     println!(
         "selftest: {} checked, {} failed",
         checks.made, checks.failed
@@ -84,136 +78,6 @@ fn fans_a() -> [Element; 3] {
     [fan(3), fan(3), fan(3)]
 }
 
-fn controlled(
-    fans: [Element; 3],
-    overall: [u8; 4],
-    individual: [[u8; 4]; 3],
-) -> Result<[Element; 3], ReservedBit> {
-    let [first, middle, last] = fans;
-    Ok([
-        first.control(overall, individual[0])?,
-        middle.control(overall, individual[1])?,
-        last.control(overall, individual[2])?,
-    ])
-}
-
-fn fans_a_acting(checks: &mut Checks) {
-    let swap = Settings {
-        swap: true,
-        ..Settings::default()
-    };
-    let ident = Settings {
-        ident: true,
-        ..Settings::default()
-    };
-    checks.equal(
-        "speed 5 for all",
-        controlled(fans_a(), SPEED_5, [UNSELECTED; 3]),
-        Ok([fan(5), fan(5), fan(5)]),
-    );
-    checks.equal(
-        "speed 5 for the middle fan",
-        controlled(fans_a(), UNSELECTED, [UNSELECTED, SPEED_5, UNSELECTED]),
-        Ok([fan(3), fan(5), fan(3)]),
-    );
-    checks.equal(
-        "speed 5 for the first two",
-        controlled(fans_a(), UNSELECTED, [SPEED_5, SPEED_5, UNSELECTED]),
-        Ok([fan(5), fan(5), fan(3)]),
-    );
-    checks.equal(
-        "IDENT on all over speeds 3, 4, 5",
-        controlled([fan(3), fan(4), fan(5)], IDENT, [UNSELECTED; 3]),
-        Ok([fan_with(ident, 3), fan_with(ident, 4), fan_with(ident, 5)]),
-    );
-    checks.equal(
-        "SWAP of the first fan cleared",
-        controlled(
-            [fan_with(swap, 3), fan(3), fan(3)],
-            UNSELECTED,
-            [RST_SWAP, UNSELECTED, UNSELECTED],
-        ),
-        Ok(fans_a()),
-    );
-    checks.equal(
-        "no SELECT",
-        controlled(fans_a(), UNSELECTED, [UNSELECTED; 3]),
-        Ok(fans_a()),
-    );
-    checks.equal("control elements that set SWAP", swap_setters(), 0);
-}
-
-/// How many selected elements give A's fan a SWAP it did not have.
-fn swap_setters() -> usize {
-    let mut setters = 0;
-    for byte0 in 0x80..=0xFF {
-        for byte1 in [0x00, 0x80] {
-            for byte3 in 0x00..=0xFF {
-                let after = fan(3).control(UNSELECTED, [byte0, byte1, 0, byte3]);
-                if let Ok(Element::Cooling { settings, .. }) = after {
-                    setters += usize::from(settings.common.swap);
-                }
-            }
-        }
-    }
-    setters
-}
-
-fn choosing(checks: &mut Checks) {
-    let swap = Settings {
-        swap: true,
-        ..Settings::default()
-    };
-    checks.equal(
-        "individual alone, SWAP not lost to the overall",
-        fan_with(swap, 3).control(RST_SWAP, SPEED_5),
-        Ok(fan_with(swap, 5)),
-    );
-    let noise = [0x7F, 0xFF, 0xFF, 0xFF];
-    checks.equal(
-        "31 bits without effect",
-        fan_with(swap, 3).control(noise, noise),
-        Ok(fan_with(swap, 3)),
-    );
-    let all_but_on = [0xF0, 0x80, 0x00, 0x47];
-    checks.equal(
-        "fan with all bits but ON",
-        fan_with(swap, 3)
-            .control(all_but_on, noise)
-            .map(|fan| fan.status()),
-        Ok([0x61, 0x80, 0x78, 0x57]),
-    );
-    let all = [0xF0, 0xC0, 0x00, 0x00];
-    let sensor = temperature(84, Thresholds::default());
-    checks.equal(
-        "sensor with all bits",
-        sensor.control(noise, all).map(|sensor| sensor.status()),
-        Ok([0x61, 0xC0, 0x54, 0x00]),
-    );
-}
-
-/// Adds each single bit to a selected element: all but the named ones are refused.
-fn reserved_bits(checks: &mut Checks) {
-    let none = Thresholds::default();
-    let elements = [
-        (fan(3), 0xF080_0067_u32),
-        (temperature(64, none), 0xF0C0_0000),
-        (voltage(1, 1, none), 0xF0C0_0000),
-        (current(1, 1, none), 0xF0C0_0000),
-    ];
-    for (element, named) in elements {
-        for place in 0..32 {
-            let selected = (0x8000_0000 | 1_u32 << place).to_be_bytes();
-            let allowed = named & 1 << place != 0;
-            let as_overall = element.control(selected, UNSELECTED).is_ok();
-            let as_individual = element.control(UNSELECTED, selected).is_ok();
-            let what = format!("{:?} with {selected:02X?}", element.kind());
-            checks.equal(&what, as_overall, allowed);
-            checks.equal(&what, as_individual, allowed);
-        }
-    }
-}
-
 fn fan_status(checks: &mut Checks) {
     for fan in fans_a() {
         checks.equal("fan of A", fan.status(), [0x01, 0x00, 0x78, 0x23]);
@@ -221,12 +85,17 @@ fn fan_status(checks: &mut Checks) {
     let standing = fan_at(0);
     checks.equal("ON, reading 0", standing.verdict().code, Code::Critical);
     checks.equal("ON, reading 0", standing.status(), [0x02, 0x00, 0x00, 0x23]);
-    let off = standing.control([0x80, 0x00, 0x00, 0x00], UNSELECTED);
-    checks.equal(
-        "OFF, reading 0",
-        off.map(|fan| fan.status()),
-        Ok([0x01, 0x00, 0x00, 0x13]),
-    );
+    let off = Element::Cooling {
+        settings: FanSettings {
+            common: Settings::default(),
+            on: false,
+            speed: 3,
+        },
+        thresholds: Thresholds::default(),
+        reading: 0,
+        nominal: 0,
+    };
+    checks.equal("OFF, reading 0", off.status(), [0x01, 0x00, 0x00, 0x13]);
     let fast = fan_at(2047);
     checks.equal("reading 2047", fast.status(), [0x01, 0x07, 0xFF, 0x23]);
 }
@@ -471,4 +340,36 @@ fn shelf_a(elements: Vec<Element>) -> Shelf {
             elements,
         }],
     }
+}
+
+/// A shelf like A, with elements of this type.
+fn shelf_a_of(kind: Kind, elements: Vec<Element>) -> Shelf {
+    let mut shelf = shelf_a(Vec::new());
+    shelf.groups = vec![group(kind, elements)];
+    shelf
+}
+
+fn group(kind: Kind, elements: Vec<Element>) -> Group {
+    Group {
+        kind,
+        text: b"Fan".to_vec(),
+        elements,
+    }
+}
+
+fn plain(kind: Kind) -> Element {
+    let none = Thresholds::default();
+    match kind {
+        Kind::Cooling => fan(3),
+        Kind::Temperature => temperature(64, none),
+        Kind::Voltage => voltage(1, 1, none),
+        Kind::Current => current(1, 1, none),
+    }
+}
+
+/// The page with these bytes at this place.
+fn with(page: &[u8], at: usize, bytes: &[u8]) -> Vec<u8> {
+    let mut changed = page.to_vec();
+    changed[at..at + bytes.len()].copy_from_slice(bytes);
+    changed
 }

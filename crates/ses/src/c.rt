@@ -13,6 +13,11 @@ ghost use Rattle.status_again.specs.Again as statusAgain;
 ghost use Rattle.threshold_in.specs.Page.{thresholdPage};
 ghost use Rattle.threshold_in.specs.Read.{thresholdRead, thresholdRecord};
 ghost use Rattle.threshold_in.specs.Again as thresholdsAgain;
+ghost use Rattle.bits.specs.Choice.{pick};
+ghost use Rattle.control.specs.Asked as control;
+ghost use Rattle.control.specs.Brought.{broughtTo, withSettings};
+ghost use Rattle.threshold_out.specs.Asked as thresholds;
+ghost use Rattle.threshold_out.specs.Taken.{takenFrom, withThresholds};
 ghost use Rattle.ses.specs.Calls.{configurationWritten, statusWritten, thresholdsWritten, configurationRewritten, statusRewritten, thresholdsRewritten};
 
 #[no_mangle]
@@ -135,4 +140,20 @@ pub extern "C" fn ses_rewrite_thresholds(
     let answer = crate::rewrite_thresholds(configuration, fields, out);
     *written = answer.bytes();
     answer.number()
+}
+
+#[no_mangle]
+pub extern "C" fn ses_apply_control(shelf: &mut [u8], page: &[u8]) -> u8
+    ensures { λ r. ⌜ r ≡ answerNumber (control.controlAsked (now (shelf .entry)) (now (page .entry))) ⌝ }
+    ensures { λ _. ⌜ now (shelf .exit) ≡ pick (control.valid (now (shelf .entry)) (now (page .entry))) (withSettings (now (shelf .entry)) (broughtTo (now (shelf .entry)) (now (page .entry)))) (now (shelf .entry)) ⌝ }
+{
+    crate::apply_control(shelf, page).number()
+}
+
+#[no_mangle]
+pub extern "C" fn ses_apply_thresholds(shelf: &mut [u8], page: &[u8]) -> u8
+    ensures { λ r. ⌜ r ≡ answerNumber (thresholds.thresholdsAsked (now (shelf .entry)) (now (page .entry))) ⌝ }
+    ensures { λ _. ⌜ now (shelf .exit) ≡ pick (thresholds.valid (now (shelf .entry)) (now (page .entry))) (withThresholds (now (shelf .entry)) (takenFrom (now (shelf .entry)) (now (page .entry)))) (now (shelf .entry)) ⌝ }
+{
+    crate::apply_thresholds(shelf, page).number()
 }

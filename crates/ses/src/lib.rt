@@ -20,6 +20,11 @@ ghost use Rattle.status_again.specs.Again as statusAgain;
 ghost use Rattle.threshold_in.specs.Page.{thresholdPage};
 ghost use Rattle.threshold_in.specs.Read.{thresholdRead, thresholdRecord};
 ghost use Rattle.threshold_in.specs.Again as thresholdsAgain;
+ghost use Rattle.bits.specs.Choice.{pick};
+ghost use Rattle.control.specs.Asked as control;
+ghost use Rattle.control.specs.Brought.{broughtTo, withSettings};
+ghost use Rattle.threshold_out.specs.Asked as thresholds;
+ghost use Rattle.threshold_out.specs.Taken.{takenFrom, withThresholds};
 ghost use Rattle.ses.specs.Calls.{configurationWritten, statusWritten, thresholdsWritten, configurationRewritten, statusRewritten, thresholdsRewritten};
 
 // Is this block a well-formed shelf?
@@ -115,4 +120,19 @@ pub fn rewrite_thresholds(
     ensures { λ r. ⌜ now (out .exit) ≡ outAfter r (thresholdsAgain.pageAgain (now (configuration .entry)) (now (fields .entry))) (now (out .entry)) ⌝ }
 {
     threshold_in::again::write(configuration, fields, out)
+}
+
+// The `apply` calls act on the shelf in place, and on all of it or nothing.
+pub fn apply_control(shelf: &mut [u8], page: &[u8]) -> Answer
+    ensures { λ r. ⌜ r ≡ control.controlAsked (now (shelf .entry)) (now (page .entry)) ⌝ }
+    ensures { λ _. ⌜ now (shelf .exit) ≡ pick (control.valid (now (shelf .entry)) (now (page .entry))) (withSettings (now (shelf .entry)) (broughtTo (now (shelf .entry)) (now (page .entry)))) (now (shelf .entry)) ⌝ }
+{
+    control::apply(shelf, page)
+}
+
+pub fn apply_thresholds(shelf: &mut [u8], page: &[u8]) -> Answer
+    ensures { λ r. ⌜ r ≡ thresholds.thresholdsAsked (now (shelf .entry)) (now (page .entry)) ⌝ }
+    ensures { λ _. ⌜ now (shelf .exit) ≡ pick (thresholds.valid (now (shelf .entry)) (now (page .entry))) (withThresholds (now (shelf .entry)) (takenFrom (now (shelf .entry)) (now (page .entry)))) (now (shelf .entry)) ⌝ }
+{
+    threshold_out::apply(shelf, page)
 }

@@ -1,8 +1,8 @@
-//! The nine calls on bytes, as the C library has them.
+//! The eleven calls on bytes, as the C library has them.
 
 use super::status::Status;
 use super::thresholds::ThresholdList;
-use super::{configuration, Refusal};
+use super::{configuration, control, threshold_out, Refusal};
 use crate::record::{self, Configuration, Shelf};
 
 pub const CONFIGURATION_BYTES: usize = 332;
@@ -24,10 +24,12 @@ pub struct Call {
     rule: Rule,
 }
 
-/// By the number of buffers it looks at; the last buffer is the one that it may change.
+/// By the number of buffers it looks at; the last buffer is the one that it may change. A call that acts
+/// may change the first, the shelf.
 enum Rule {
     OfOne(fn(&[u8], &[u8]) -> Answer),
     OfTwo(fn(&[u8], &[u8], &[u8]) -> Answer),
+    Acting(fn(&[u8], &[u8]) -> Answer),
 }
 
 pub static WRITE_CONFIGURATION: Call = Call {
@@ -93,7 +95,21 @@ pub static REWRITE_THRESHOLDS: Call = Call {
     rule: Rule::OfTwo(rewrite_thresholds),
 };
 
-pub static ALL: [&Call; 9] = [
+pub static APPLY_CONTROL: Call = Call {
+    name: "apply_control",
+    letter: b'J',
+    outcomes: &[0, 1, 2, 3, 4, 5, 6],
+    rule: Rule::Acting(apply_control),
+};
+
+pub static APPLY_THRESHOLDS: Call = Call {
+    name: "apply_thresholds",
+    letter: b'K',
+    outcomes: &[0, 1, 2, 3, 4, 5, 6, 7, 8],
+    rule: Rule::Acting(apply_thresholds),
+};
+
+pub static ALL: [&Call; 11] = [
     &WRITE_CONFIGURATION,
     &WRITE_STATUS,
     &WRITE_THRESHOLDS,
@@ -103,6 +119,8 @@ pub static ALL: [&Call; 9] = [
     &REWRITE_CONFIGURATION,
     &REWRITE_STATUS,
     &REWRITE_THRESHOLDS,
+    &APPLY_CONTROL,
+    &APPLY_THRESHOLDS,
 ];
 
 impl Call {
@@ -110,8 +128,19 @@ impl Call {
         match (&self.rule, inputs) {
             (Rule::OfOne(rule), [input]) => rule(input, lent),
             (Rule::OfTwo(rule), [configuration, input]) => rule(configuration, input, lent),
+            (Rule::Acting(rule), [page]) => rule(lent, page),
             _ => panic!("{} takes another number of buffers", self.name),
         }
+    }
+
+    /// All buffers in the order in which the call takes them.
+    pub fn buffers<'a>(&self, inputs: &'a [Vec<u8>], lent: &'a [u8]) -> Vec<&'a [u8]> {
+        let mut buffers: Vec<&[u8]> = inputs.iter().map(Vec::as_slice).collect();
+        match self.rule {
+            Rule::OfOne(_) | Rule::OfTwo(_) => buffers.push(lent),
+            Rule::Acting(_) => buffers.insert(0, lent),
+        }
+        buffers
     }
 }
 
@@ -170,6 +199,16 @@ pub fn rewrite_thresholds(configuration: &[u8], record: &[u8], out: &[u8]) -> An
     wrote(well_formed(configuration).and_then(page), out)
 }
 
+pub fn apply_control(shelf: &[u8], page: &[u8]) -> Answer {
+    let after = well_formed_shelf(shelf).and_then(|shelf| control::after(&shelf, page));
+    handed_back(after.map(|shelf| shelf.block()), shelf)
+}
+
+pub fn apply_thresholds(shelf: &[u8], page: &[u8]) -> Answer {
+    let after = well_formed_shelf(shelf).and_then(|shelf| threshold_out::after(&shelf, page));
+    handed_back(after.map(|shelf| shelf.block()), shelf)
+}
+
 fn well_formed_shelf(block: &[u8]) -> Result<Shelf, Refusal> {
     record::read(block)
         .filter(Shelf::well_formed)
@@ -196,7 +235,7 @@ fn wrote(page: Result<Vec<u8>, Refusal>, out: &[u8]) -> Answer {
     Answer { number, bytes }
 }
 
-/// The number, and the record.
+/// The number, and the record or shelf.
 fn handed_back(record: Result<Vec<u8>, Refusal>, before: &[u8]) -> Answer {
     let (number, record) = outcome(record);
     let mut bytes = vec![number];

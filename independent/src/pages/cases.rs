@@ -1,9 +1,12 @@
 //! Calls to compare: every call, with good input of every shape and with all that can be wrong.
 
+mod acting;
 mod changes;
+pub mod control;
 mod reading;
 mod rewriting;
 mod shapes;
+pub mod threshold_out;
 mod writing;
 
 use super::calls::{Answer, Call};
@@ -13,7 +16,7 @@ pub struct Case {
     pub call: &'static Call,
     /// The buffers that the call only looks at.
     pub inputs: Vec<Vec<u8>>,
-    /// The output buffer or record before the call.
+    /// The output buffer, record or shelf before the call.
     pub lent: Vec<u8>,
 }
 
@@ -29,6 +32,8 @@ pub fn offer_all(rng: &mut Rng, offer: Offer) {
     writing::offer_all(rng, offer);
     reading::offer_all(rng, offer);
     rewriting::offer_all(rng, offer);
+    control::offer_all(rng, offer);
+    threshold_out::offer_all(rng, offer);
 }
 
 const LONGEST_PAGE: usize = 65_539;

@@ -1,15 +1,15 @@
 //! The paper's numbers for whole pages.
 
 use super::{
-    block_a, current, fan, fan_at, fan_like, fans_a, high_critical, high_warning, low_critical,
-    shelf_a, temperature, voltage, Checks,
+    block_a, current, fan, fan_at, fan_like, fans_a, group, high_critical, high_warning,
+    low_critical, plain, shelf_a, shelf_a_of, temperature, voltage, with, Checks,
 };
 use crate::pages::calls::{
     read_configuration, read_status, read_thresholds, rewrite_configuration, rewrite_status,
     rewrite_thresholds, write_configuration, write_status, write_thresholds, Answer,
     CONFIGURATION_BYTES, STATUS_BYTES, THRESHOLDS_BYTES,
 };
-use crate::record::{Element, Group, Kind, Settings, Shelf, Thresholds};
+use crate::record::{Element, Kind, Settings, Thresholds};
 
 /// Memory before a call.
 const BEFORE: u8 = 0xA5;
@@ -117,13 +117,6 @@ fn output_lengths(checks: &mut Checks) {
     checks.equal("broken shelf, no output", broken, not_written(1, 0));
     let broken = rewrite_configuration(&block, &[BEFORE; 9]);
     checks.equal("whole block, short output", broken, not_written(1, 9));
-}
-
-/// The page with these bytes at this place.
-fn with(page: &[u8], at: usize, bytes: &[u8]) -> Vec<u8> {
-    let mut changed = page.to_vec();
-    changed[at..at + bytes.len()].copy_from_slice(bytes);
-    changed
 }
 
 fn configurations_read(checks: &mut Checks) {
@@ -243,31 +236,6 @@ fn status_fields(checks: &mut Checks) {
             let page = with(&page(0, 0), 1, &[byte1]);
             checks.equal("page byte 1", number(&page), expected);
         }
-    }
-}
-
-/// A shelf like A, with elements of this type.
-fn shelf_a_of(kind: Kind, elements: Vec<Element>) -> Shelf {
-    let mut shelf = shelf_a(Vec::new());
-    shelf.groups = vec![group(kind, elements)];
-    shelf
-}
-
-fn group(kind: Kind, elements: Vec<Element>) -> Group {
-    Group {
-        kind,
-        text: b"Fan".to_vec(),
-        elements,
-    }
-}
-
-fn plain(kind: Kind) -> Element {
-    let none = Thresholds::default();
-    match kind {
-        Kind::Cooling => fan(3),
-        Kind::Temperature => temperature(64, none),
-        Kind::Voltage => voltage(1, 1, none),
-        Kind::Current => current(1, 1, none),
     }
 }
 

@@ -32,6 +32,33 @@ pub fn one_of_each(rng: &mut Rng) -> Shelf {
     shelf_of(rng, groups)
 }
 
+/// A few elements of each type, in any order, some types twice and some of those without elements.
+pub fn some_of_each(rng: &mut Rng) -> Shelf {
+    let mut kinds = Kind::ALL.map(|kind| (kind, rng.range(1, 4))).to_vec();
+    for _ in 0..rng.range(0, 4) {
+        kinds.push((rng.pick(&Kind::ALL), rng.range(0, 2)));
+    }
+    for place in 0..kinds.len() {
+        kinds.swap(place, rng.range(0, place));
+    }
+    let groups = kinds.iter().map(|(kind, count)| group(rng, *kind, *count));
+    let groups = groups.collect();
+    shelf_of(rng, groups)
+}
+
+/// So many elements of this type, between two types that have one or none.
+pub fn between_two(rng: &mut Rng, kind: Kind, count: usize) -> Shelf {
+    let mut groups: Vec<Group> = Vec::new();
+    for (kind, count) in [
+        (rng.pick(&Kind::ALL), rng.range(0, 1)),
+        (kind, count),
+        (rng.pick(&Kind::ALL), rng.range(0, 1)),
+    ] {
+        groups.push(group(rng, kind, count));
+    }
+    shelf_of(rng, groups)
+}
+
 /// A full shelf of one type: each of the four limits in turn, with the reading at it and a step off.
 pub fn at_limits(rng: &mut Rng, kind: Kind) -> Shelf {
     let mut full = group(rng, kind, 0);

@@ -1,0 +1,231 @@
+//! Enclosure Control pages.
+
+use super::acting::{put, slots, Actor, Attempt, Chance, Slot};
+use super::shapes::{between_two, shelf};
+use super::{Case, Offer};
+use crate::cases::{group, shelf_of, ELEMENTS_AT, ELEMENT_BYTES};
+use crate::pages::calls::APPLY_CONTROL;
+use crate::record::{Kind, Shelf};
+use crate::rng::Rng;
+use std::array::from_fn;
+
+const SELECT: u32 = 0x8000_0000;
+const FULL: usize = 64;
+
+static CONTROL: Actor = Actor {
+    call: &APPLY_CONTROL,
+    code: 0x02,
+    accepted: accepted_page,
+    flaws: &[not_allowed],
+};
+
+pub fn offer_all(rng: &mut Rng, offer: Offer) {
+    CONTROL.offer_spoiled(rng, offer);
+    for kind in Kind::ALL {
+        every_request_over_every_setting(rng, kind, offer);
+        for _ in 0..3 {
+            every_bit(rng, kind, offer);
+        }
+        for _ in 0..1_500 {
+            offer(few_elements(rng, kind));
+        }
+    }
+    for _ in 0..500 {
+        offer(as_stored(rng));
+    }
+}
+
+/// The bits that have a name in a control element of this type, but for SELECT. In the settings of a shelf
+/// block they are the same.
+fn named(kind: Kind) -> u32 {
+    match kind {
+        Kind::Cooling => 0x7080_0067,
+        Kind::Temperature | Kind::Voltage | Kind::Current => 0x70C0_0000,
+    }
+}
+
+fn reserved(kind: Kind) -> u32 {
+    !(SELECT | named(kind))
+}
+
+fn four_bytes(rng: &mut Rng) -> u32 {
+    u32::from_be_bytes(from_fn(|_| rng.byte()))
+}
+
+fn selected(rng: &mut Rng, kind: Kind) -> u32 {
+    SELECT | four_bytes(rng) & named(kind)
+}
+
+/// Any bits, mostly.
+fn unselected(rng: &mut Rng) -> u32 {
+    if rng.one_in(4) {
+        0
+    } else {
+        four_bytes(rng) & !SELECT
+    }
+}
+
+/// A page that the shelf accepts, with any number of SELECTs and any bits where they have no effect.
+pub fn accepted_page(rng: &mut Rng, shelf: &Shelf) -> Vec<u8> {
+    let (overall_chance, individual_chance) = (Chance::any(rng), Chance::any(rng));
+    let mut page = CONTROL.blank(shelf);
+    page[1] = rng.byte() % 16;
+    for slot in slots(shelf) {
+        let chance = if slot.overall {
+            overall_chance
+        } else {
+            individual_chance
+        };
+        let element = if chance.comes(rng) {
+            selected(rng, slot.kind)
+        } else {
+            unselected(rng)
+        };
+        put(&mut page, slot, element.to_be_bytes());
+    }
+    page
+}
+
+/// Bit 7 to 4 of page byte 1, or a reserved bit of a selected element.
+fn not_allowed(attempt: &mut Attempt, rng: &mut Rng) {
+    if rng.one_in(4) {
+        attempt.page[1] |= 1 << rng.range(4, 7);
+        return;
+    }
+    let slot = rng.pick(&slots(&attempt.shelf));
+    let reserved: Vec<u32> = every_single_bit()
+        .filter(|bit| bit & reserved(slot.kind) != 0)
+        .collect();
+    let element = selected(rng, slot.kind) | rng.pick(&reserved);
+    put(&mut attempt.page, slot, element.to_be_bytes());
+}
+
+fn every_single_bit() -> impl Iterator<Item = u32> {
+    (0..32).map(|place| 1 << place)
+}
+
+/// Every number whose bits are all among these.
+fn parts_of(bits: u32) -> Vec<u32> {
+    let mut parts = vec![0];
+    for bit in every_single_bit().filter(|bit| bits & bit != 0) {
+        let with_bit: Vec<u32> = parts.iter().map(|part| part | bit).collect();
+        parts.extend(with_bit);
+    }
+    parts
+}
+
+fn every_request(kind: Kind) -> Vec<u32> {
+    let requests = parts_of(named(kind)).into_iter();
+    requests.map(|request| SELECT | request).collect()
+}
+
+/// A fan's speed code is not 0.
+fn every_setting(kind: Kind) -> Vec<u32> {
+    let settings = parts_of(named(kind)).into_iter();
+    settings
+        .filter(|settings| kind != Kind::Cooling || settings & 0x07 != 0)
+        .collect()
+}
+
+/// Each request meets each stored setting of its type, once as overall and once as individual element.
+fn every_request_over_every_setting(rng: &mut Rng, kind: Kind, offer: Offer) {
+    let requests = every_request(kind);
+    for stored in every_setting(kind).chunks(FULL) {
+        let groups = vec![group(rng, kind, stored.len())];
+        let shelf = shelf_of(rng, groups);
+        let block = with_settings(&shelf, stored);
+        for turn in 0..requests.len() {
+            let mut as_overall = CONTROL.blank(&shelf);
+            let mut as_individual = CONTROL.blank(&shelf);
+            for (place, slot) in slots(&shelf).into_iter().enumerate() {
+                let (one, other) = if slot.overall {
+                    (requests[turn], any_overall(rng, kind))
+                } else {
+                    (unselected(rng), requests[(turn + place) % requests.len()])
+                };
+                put(&mut as_overall, slot, one.to_be_bytes());
+                put(&mut as_individual, slot, other.to_be_bytes());
+            }
+            offer(CONTROL.case_of(block.clone(), as_overall));
+            offer(CONTROL.case_of(block.clone(), as_individual));
+        }
+    }
+}
+
+fn any_overall(rng: &mut Rng, kind: Kind) -> u32 {
+    if rng.one_in(2) {
+        selected(rng, kind)
+    } else {
+        unselected(rng)
+    }
+}
+
+fn with_settings(shelf: &Shelf, stored: &[u32]) -> Vec<u8> {
+    let mut block = shelf.block();
+    for (place, settings) in stored.iter().enumerate() {
+        let at = ELEMENTS_AT + ELEMENT_BYTES * place;
+        block[at..at + 4].copy_from_slice(&settings.to_be_bytes());
+    }
+    block
+}
+
+/// Each bit in turn is set in each element of a type, with SELECT and without.
+fn every_bit(rng: &mut Rng, kind: Kind, offer: Offer) {
+    for count in [0, 3] {
+        for place in 0..=count {
+            for bit in every_single_bit() {
+                for select in [0, SELECT] {
+                    let shelf = between_two(rng, kind, count);
+                    let slot = slots(&shelf)[1 + shelf.groups[0].elements.len() + place];
+                    offer(one_bit_set(rng, &shelf, slot, select | bit));
+                }
+            }
+        }
+    }
+}
+
+fn one_bit_set(rng: &mut Rng, shelf: &Shelf, slot: Slot, set: u32) -> Case {
+    let others = if set & SELECT == 0 {
+        unselected(rng)
+    } else {
+        selected(rng, slot.kind)
+    };
+    let mut page = accepted_page(rng, shelf);
+    put(&mut page, slot, (others | set).to_be_bytes());
+    let case = CONTROL.case(shelf, page);
+    let refused = set & SELECT != 0 && set & reserved(slot.kind) != 0;
+    let number = if refused { 6 } else { 0 };
+    assert_eq!(case.answer().number, number, "{:?}, {set:08X}", slot.kind);
+    case
+}
+
+/// One type with up to three elements; one control element in four may have any bits.
+fn few_elements(rng: &mut Rng, kind: Kind) -> Case {
+    let count = rng.range(1, 3);
+    let groups = vec![group(rng, kind, count)];
+    let shelf = shelf_of(rng, groups);
+    let mut page = CONTROL.blank(&shelf);
+    for slot in slots(&shelf) {
+        let any = four_bytes(rng);
+        let element = if rng.one_in(4) {
+            any
+        } else {
+            any & (SELECT | named(kind))
+        };
+        put(&mut page, slot, element.to_be_bytes());
+    }
+    CONTROL.case(&shelf, page)
+}
+
+/// Each element is asked for what it has.
+fn as_stored(rng: &mut Rng) -> Case {
+    let shelf = shelf(rng);
+    let mut page = CONTROL.blank(&shelf);
+    let block = shelf.block();
+    let individual = slots(&shelf).into_iter().filter(|slot| !slot.overall);
+    for (slot, element) in individual.zip(block[ELEMENTS_AT..].chunks(ELEMENT_BYTES)) {
+        let [byte0, byte1, _, byte3] = [element[0], element[1], element[2], element[3]];
+        put(&mut page, slot, [0x80 | byte0 & 0x60, byte1, 0, byte3]);
+    }
+    CONTROL.case(&shelf, page)
+}

@@ -1,0 +1,194 @@
+//! How often the calls compared brought up each thing that they can.
+
+use super::calls::{self, Answer, APPLY_CONTROL, APPLY_THRESHOLDS, WRITE_STATUS};
+use super::cases::Case;
+use super::status::Status;
+use super::{ElementPage, TypeElements};
+use crate::bits::{bit, flag};
+use crate::record::{self, Group, Kind, Shelf};
+use crate::shown::Shown;
+use std::collections::BTreeMap;
+use std::iter::zip;
+
+const LEAST_OF_EACH: usize = 100;
+
+/// The codes that a status page of a shelf can show.
+const CODES: [(&str, &[u8]); 5] = [
+    ("overall", &[0, 1, 2, 3, 6]),
+    ("cooling", &[1, 2]),
+    ("temperature", &[1, 2, 3, 6]),
+    ("voltage", &[1, 2, 3]),
+    ("current", &[1, 2, 3]),
+];
+
+/// None, one, or more.
+const CHANGED: [(&str, &[u8]); 2] = [
+    ("apply_control", &[0, 1, 2]),
+    ("apply_thresholds", &[0, 1, 2]),
+];
+
+/// 2 for the individual element's SELECT, 1 for the overall one's.
+const SELECTS: [(&str, &[u8]); 4] = [
+    ("cooling", &[0, 1, 2, 3]),
+    ("temperature", &[0, 1, 2, 3]),
+    ("voltage", &[0, 1, 2, 3]),
+    ("current", &[0, 1, 2, 3]),
+];
+
+/// 4 for a nonzero individual byte, 2 for a nonzero overall one, 1 for a nonzero stored one.
+const SOURCES: [(&str, &[u8]); 4] = [
+    ("cooling", &[0]),
+    ("temperature", &[0, 1, 2, 3, 4, 5, 6, 7]),
+    ("voltage", &[0, 1, 2, 3, 4, 5, 6, 7]),
+    ("current", &[0, 1, 2, 3, 4, 5, 6, 7]),
+];
+
+/// How often each number came up under each name.
+#[derive(Default)]
+struct Tally(BTreeMap<(&'static str, u8), usize>);
+
+#[derive(Default)]
+pub struct Coverage {
+    outcomes: Tally,
+    codes: Tally,
+    changed: Tally,
+    selects: Tally,
+    sources: Tally,
+}
+
+impl Tally {
+    fn count(&mut self, name: &'static str, number: u8) {
+        *self.0.entry((name, number)).or_insert(0) += 1;
+    }
+
+    /// One line for each name; false if a number that can come up did so too rarely.
+    fn print(&self, possible: &[(&'static str, &[u8])]) -> bool {
+        let mut enough = true;
+        for (name, numbers) in possible {
+            print!("  {name:21}");
+            for number in *numbers {
+                let times = self.0.get(&(*name, *number)).copied().unwrap_or(0);
+                print!(" {number:2}: {times:<6}");
+                enough &= times >= LEAST_OF_EACH;
+            }
+            println!();
+        }
+        enough
+    }
+}
+
+impl Coverage {
+    pub fn count(&mut self, case: &Case, answer: &Answer) {
+        let Case { call, inputs, lent } = case;
+        self.outcomes.count(call.name, answer.number);
+        if answer.number != 0 {
+            return;
+        }
+        if call.letter == WRITE_STATUS.letter {
+            self.count_codes(&shelf_of(&inputs[0]));
+        } else if call.letter == APPLY_CONTROL.letter {
+            let (before, after) = (shelf_of(lent), shelf_of(&answer.bytes[1..]));
+            self.count_changed(call.name, &before, &after);
+            self.count_selects(&before, &inputs[0]);
+        } else if call.letter == APPLY_THRESHOLDS.letter {
+            let (before, after) = (shelf_of(lent), shelf_of(&answer.bytes[1..]));
+            self.count_changed(call.name, &before, &after);
+            self.count_sources(&before, &inputs[0]);
+        }
+    }
+
+    /// False if something that can come up did so too rarely.
+    pub fn print(&self) -> bool {
+        let outcomes = calls::ALL.map(|call| (call.name, call.outcomes));
+        let told: [(&str, &Tally, &[(&'static str, &[u8])]); 5] = [
+            ("by outcome", &self.outcomes, &outcomes),
+            ("codes on the status pages written", &self.codes, &CODES),
+            (
+                "accepted pages that changed no, one, more elements",
+                &self.changed,
+                &CHANGED,
+            ),
+            (
+                "elements by SELECT, individual 2, overall 1",
+                &self.selects,
+                &SELECTS,
+            ),
+            (
+                "thresholds by nonzero bytes, individual 4, overall 2, stored 1",
+                &self.sources,
+                &SOURCES,
+            ),
+        ];
+        let mut enough = true;
+        for (title, tally, possible) in told {
+            println!("pages: {title}");
+            enough &= tally.print(possible);
+        }
+        if !enough {
+            println!("too few: at least {LEAST_OF_EACH} of each are wanted");
+        }
+        enough
+    }
+
+    fn count_codes(&mut self, shelf: &Shelf) {
+        for shown in Status::of(shelf).shown {
+            match shown {
+                Shown::Overall { code } => self.codes.count("overall", code),
+                Shown::Cooling { code, .. } => self.codes.count("cooling", code),
+                Shown::Temperature { code, .. } => self.codes.count("temperature", code),
+                Shown::Voltage { code, .. } => self.codes.count("voltage", code),
+                Shown::Current { code, .. } => self.codes.count("current", code),
+            }
+        }
+    }
+
+    fn count_changed(&mut self, call: &'static str, before: &Shelf, after: &Shelf) {
+        let elements = zip(before.elements(), after.elements());
+        let changed = elements.filter(|(before, after)| before != after).count();
+        self.changed.count(call, changed.min(2) as u8);
+    }
+
+    fn count_selects(&mut self, shelf: &Shelf, page: &[u8]) {
+        for (group, asked) in by_group(shelf, page) {
+            let select = |element: [u8; 4]| bit(element[0], 7);
+            for individual in asked.individual {
+                let number = flag(select(individual), 1) + flag(select(asked.overall), 0);
+                self.selects.count(kind_name(group.kind), number);
+            }
+        }
+    }
+
+    fn count_sources(&mut self, shelf: &Shelf, page: &[u8]) {
+        for (group, asked) in by_group(shelf, page) {
+            for (element, individual) in zip(&group.elements, asked.individual) {
+                let stored = element.thresholds().bytes();
+                for at in 0..4 {
+                    let number = flag(individual[at] != 0, 2)
+                        + flag(asked.overall[at] != 0, 1)
+                        + flag(stored[at] != 0, 0);
+                    self.sources.count(kind_name(group.kind), number);
+                }
+            }
+        }
+    }
+}
+
+fn shelf_of(block: &[u8]) -> Shelf {
+    record::read(block).expect("the shelf of an accepted call")
+}
+
+/// Each type with what an accepted page has for it.
+fn by_group<'a>(shelf: &'a Shelf, page: &[u8]) -> impl Iterator<Item = (&'a Group, TypeElements)> {
+    let configuration = shelf.configuration();
+    let page = ElementPage::read(page[0], &configuration, page).expect("an accepted page");
+    zip(&shelf.groups, page.by_type(&configuration))
+}
+
+fn kind_name(kind: Kind) -> &'static str {
+    match kind {
+        Kind::Cooling => "cooling",
+        Kind::Temperature => "temperature",
+        Kind::Voltage => "voltage",
+        Kind::Current => "current",
+    }
+}

@@ -1,0 +1,439 @@
+//! The paper's numbers for pages that act, examples worked out from its rules, and laws that follow from them.
+
+use super::{
+    block_a, current, fan, fan_with, fans_a, group, plain, shelf_a, shelf_a_of, temperature, with,
+    Checks,
+};
+use crate::cases::{self, ELEMENTS_AT, ELEMENT_BYTES};
+use crate::pages::calls::{apply_control, apply_thresholds, write_status, Answer};
+use crate::pages::cases::{control, threshold_out};
+use crate::record::{Element, Kind, Settings, Shelf, Thresholds};
+use crate::rng::Rng;
+
+const SEED: u64 = 0xAC7;
+const ROUNDS: usize = 500;
+
+const UNSELECTED: [u8; 4] = [0; 4];
+const SPEED_5: [u8; 4] = [0x80, 0x00, 0x00, 0x25];
+const IDENT: [u8; 4] = [0x80, 0x80, 0x00, 0x20];
+const RST_SWAP: [u8; 4] = [0x90, 0x00, 0x00, 0x20];
+const SELECTED: [u8; 4] = [0x80, 0x00, 0x00, 0x00];
+/// Every bit but SELECT.
+const NOISE: [u8; 4] = [0x7F, 0xFF, 0xFF, 0xFF];
+
+const SWAP: Settings = Settings {
+    prdfail: false,
+    disabled: false,
+    swap: true,
+    ident: false,
+    fail: false,
+};
+
+pub(super) fn check(checks: &mut Checks) {
+    fans_a_acting(checks);
+    headers_for_a(checks);
+    choosing(checks);
+    requested_speeds(checks);
+    reserved_bits(checks);
+    page_byte_1(checks);
+    types_apart(checks);
+    thresholds_taken(checks);
+    thresholds_refused(checks);
+    order_in_one_of_many(checks);
+    control_laws(checks);
+    threshold_laws(checks);
+}
+
+fn control_page(elements: &[[u8; 4]]) -> Vec<u8> {
+    page(0x02, elements)
+}
+
+fn threshold_page(elements: &[[u8; 4]]) -> Vec<u8> {
+    page(0x05, elements)
+}
+
+/// A page for a shelf of generation 7.
+fn page(code: u8, elements: &[[u8; 4]]) -> Vec<u8> {
+    let length = 4 + 4 * elements.len();
+    let header = [code, 0x00, 0x00, length as u8, 0x00, 0x00, 0x00, 0x07];
+    [&header[..], &elements.concat()].concat()
+}
+
+fn accepted(after: &Shelf) -> Answer {
+    Answer {
+        number: 0,
+        bytes: [vec![0], after.block()].concat(),
+    }
+}
+
+fn refused(number: u8, block: &[u8]) -> Answer {
+    Answer {
+        number,
+        bytes: [&[number], block].concat(),
+    }
+}
+
+fn fans_a_acting(checks: &mut Checks) {
+    let ident = Settings {
+        ident: true,
+        ..Settings::default()
+    };
+    let cases: [(&str, [Element; 3], [[u8; 4]; 4], [Element; 3]); 6] = [
+        (
+            "speed 5 for all",
+            fans_a(),
+            [SPEED_5, UNSELECTED, UNSELECTED, UNSELECTED],
+            [fan(5), fan(5), fan(5)],
+        ),
+        (
+            "speed 5 for the middle fan",
+            fans_a(),
+            [UNSELECTED, UNSELECTED, SPEED_5, UNSELECTED],
+            [fan(3), fan(5), fan(3)],
+        ),
+        (
+            "speed 5 for the first two",
+            fans_a(),
+            [UNSELECTED, SPEED_5, SPEED_5, UNSELECTED],
+            [fan(5), fan(5), fan(3)],
+        ),
+        (
+            "IDENT on all over speeds 3, 4, 5",
+            [fan(3), fan(4), fan(5)],
+            [IDENT, UNSELECTED, UNSELECTED, UNSELECTED],
+            [fan_with(ident, 3), fan_with(ident, 4), fan_with(ident, 5)],
+        ),
+        (
+            "SWAP of the first fan cleared",
+            [fan_with(SWAP, 3), fan(3), fan(3)],
+            [UNSELECTED, RST_SWAP, UNSELECTED, UNSELECTED],
+            fans_a(),
+        ),
+        ("no SELECT", fans_a(), [UNSELECTED; 4], fans_a()),
+    ];
+    for (what, before, elements, after) in cases {
+        let answer = apply_control(&shelf_a(before.to_vec()).block(), &control_page(&elements));
+        checks.equal(what, answer, accepted(&shelf_a(after.to_vec())));
+    }
+    checks.equal("control elements that set SWAP", swap_setters(), 0);
+}
+
+/// How many selected elements give A's fan a SWAP it did not have.
+fn swap_setters() -> usize {
+    let shelf = shelf_a(vec![fan(3)]).block();
+    let mut setters = 0;
+    for byte0 in 0x80..=0xFF {
+        for byte1 in [0x00, 0x80] {
+            for byte3 in 0x00..=0xFF {
+                let page = control_page(&[UNSELECTED, [byte0, byte1, 0, byte3]]);
+                let first_settings = apply_control(&shelf, &page).bytes[1 + ELEMENTS_AT];
+                setters += usize::from(first_settings & 0x10 != 0);
+            }
+        }
+    }
+    setters
+}
+
+fn headers_for_a(checks: &mut Checks) {
+    let block = block_a();
+    let all = [SPEED_5, UNSELECTED, UNSELECTED, UNSELECTED];
+    let calls: [(u8, fn(&[u8], &[u8]) -> Answer, [[u8; 4]; 4]); 2] = [
+        (0x02, apply_control, all),
+        (0x05, apply_thresholds, [[0; 4]; 4]),
+    ];
+    for (code, call, elements) in calls {
+        let page = page(code, &elements);
+        checks.equal("length field for A", page[3], 0x14);
+        checks.equal("page for A", call(&block, &page).number, 0);
+        let longer = [&page[..], &[0]].concat();
+        let other = 0x07 - code;
+        let cases: [(&str, u8, Vec<u8>); 12] = [
+            ("empty page", 2, Vec::new()),
+            ("page of 3 bytes", 2, page[..3].to_vec()),
+            ("3 bytes of another page", 2, vec![other, 0, 0]),
+            ("the other page", 3, with(&page, 0, &[other])),
+            ("other page, 25 bytes", 3, with(&longer, 0, &[other])),
+            ("23 bytes", 4, page[..23].to_vec()),
+            ("25 bytes", 4, longer.clone()),
+            ("25 bytes, said so", 4, with(&longer, 3, &[0x15])),
+            ("two fans", 4, with(&page[..20], 2, &[0x00, 0x10])),
+            ("generation 8", 5, with(&page, 7, &[8])),
+            ("25 bytes and generation 8", 4, with(&longer, 7, &[8])),
+            (
+                "generation 8 and byte 1",
+                5,
+                with(&with(&page, 7, &[8]), 1, &[0x80]),
+            ),
+        ];
+        for (what, number, page) in cases {
+            checks.equal(what, call(&block, &page), refused(number, &block));
+        }
+        let broken = with(&block, 41, &[1]);
+        let answer = call(&broken, &[]);
+        checks.equal("broken shelf, empty page", answer, refused(1, &broken));
+        let answer = call(&block[..379], &page);
+        checks.equal("379 bytes of A", answer, refused(1, &block[..379]));
+    }
+}
+
+fn choosing(checks: &mut Checks) {
+    let swapped = shelf_a(vec![fan_with(SWAP, 3)]);
+    let cases: [(&str, [[u8; 4]; 2], Element); 4] = [
+        (
+            "individual alone, SWAP not lost to the overall",
+            [RST_SWAP, SPEED_5],
+            fan_with(SWAP, 5),
+        ),
+        (
+            "individual alone, no bit of the overall",
+            [[0xF0, 0x80, 0x00, 0x67], [0x80, 0x00, 0x00, 0x20]],
+            fan_with(SWAP, 3),
+        ),
+        ("31 bits without effect", [NOISE, NOISE], fan_with(SWAP, 3)),
+        ("left to the overall", [RST_SWAP, NOISE], fan(3)),
+    ];
+    for (what, elements, after) in cases {
+        let answer = apply_control(&swapped.block(), &control_page(&elements));
+        checks.equal(what, answer, accepted(&shelf_a(vec![after])));
+    }
+    let all_but_on = [[0xF0, 0x80, 0x00, 0x47], NOISE];
+    let answer = apply_control(&swapped.block(), &control_page(&all_but_on));
+    checks.equal(
+        "fan with all bits but ON",
+        shown(&answer),
+        vec![0x61, 0x80, 0x78, 0x57],
+    );
+    let sensor = shelf_a_of(Kind::Temperature, vec![plain(Kind::Temperature)]);
+    let all = [NOISE, [0xF0, 0xC0, 0x00, 0x00]];
+    let answer = apply_control(&sensor.block(), &control_page(&all));
+    checks.equal(
+        "sensor with all bits",
+        shown(&answer),
+        vec![0x61, 0xC0, 0x40, 0x00],
+    );
+}
+
+/// How the status page then shows the only element.
+fn shown(answer: &Answer) -> Vec<u8> {
+    let page = write_status(&answer.bytes[1..], &[0; 16]);
+    page.bytes[5 + 12..].to_vec()
+}
+
+fn requested_speeds(checks: &mut Checks) {
+    for code in 0..=7 {
+        let elements = [UNSELECTED, [0x80, 0x00, 0x00, 0x20 + code]];
+        let answer = apply_control(&shelf_a(vec![fan(3)]).block(), &control_page(&elements));
+        let speed = if code == 0 { 3 } else { code };
+        checks.equal(
+            "requested speed",
+            answer,
+            accepted(&shelf_a(vec![fan(speed)])),
+        );
+    }
+}
+
+/// Adds each single bit to an element: all but the named ones are refused if it has SELECT, none if not.
+fn reserved_bits(checks: &mut Checks) {
+    let named: [(Kind, u32); 4] = [
+        (Kind::Cooling, 0xF080_0067),
+        (Kind::Temperature, 0xF0C0_0000),
+        (Kind::Voltage, 0xF0C0_0000),
+        (Kind::Current, 0xF0C0_0000),
+    ];
+    for (kind, named) in named {
+        let block = shelf_a_of(kind, vec![plain(kind)]).block();
+        let number = |elements: &[[u8; 4]]| apply_control(&block, &control_page(elements)).number;
+        let empty = shelf_a_of(kind, Vec::new()).block();
+        for place in 0..32 {
+            let bit = 1_u32 << place;
+            let selected = (0x8000_0000 | bit).to_be_bytes();
+            let expected = if named & bit == 0 { 6 } else { 0 };
+            let what = format!("{kind:?} with {selected:02X?}");
+            checks.equal(&what, number(&[selected, UNSELECTED]), expected);
+            checks.equal(&what, number(&[UNSELECTED, selected]), expected);
+            checks.equal(&what, number(&[selected, SELECTED]), expected);
+            let without_elements = apply_control(&empty, &control_page(&[selected]));
+            checks.equal(&what, without_elements.number, expected);
+            let unselected = (0x7FFF_FFFF & bit).to_be_bytes();
+            checks.equal("unselected", number(&[unselected, unselected]), 0);
+        }
+    }
+}
+
+fn page_byte_1(checks: &mut Checks) {
+    let block = block_a();
+    let control = control_page(&[UNSELECTED; 4]);
+    let thresholds = threshold_page(&[[0; 4]; 4]);
+    for byte1 in 0..=0xFF {
+        let answer = apply_control(&block, &with(&control, 1, &[byte1]));
+        let number = if byte1 < 0x10 { 0 } else { 6 };
+        checks.equal("control, page byte 1", answer.number, number);
+        let answer = apply_thresholds(&block, &with(&thresholds, 1, &[byte1]));
+        let number = if byte1 == 0 { 0 } else { 6 };
+        checks.equal("thresholds, page byte 1", answer.number, number);
+    }
+}
+
+/// Fans, an empty type and fans again: each overall element is for its own type.
+fn types_apart(checks: &mut Checks) {
+    let three = |first: Element, last: Element| {
+        let mut shelf = shelf_a(vec![first]);
+        shelf.groups.push(group(Kind::Current, Vec::new()));
+        shelf.groups.push(group(Kind::Cooling, vec![last]));
+        shelf
+    };
+    let before = three(fan(3), fan(3)).block();
+    let first = [SPEED_5, NOISE, UNSELECTED, UNSELECTED, NOISE];
+    checks.equal(
+        "speed 5 for the first type",
+        apply_control(&before, &control_page(&first)),
+        accepted(&three(fan(5), fan(3))),
+    );
+    let last = [UNSELECTED, UNSELECTED, [0x80, 0, 0, 0], SPEED_5, NOISE];
+    checks.equal(
+        "speed 5 for the last type",
+        apply_control(&before, &control_page(&last)),
+        accepted(&three(fan(3), fan(5))),
+    );
+    let spoiled = [SPEED_5, NOISE, [0x80, 0, 0, 0], SPEED_5, [0x80, 0, 1, 0]];
+    checks.equal(
+        "a reserved bit in the last element",
+        apply_control(&before, &control_page(&spoiled)),
+        refused(6, &before),
+    );
+}
+
+fn thresholds_taken(checks: &mut Checks) {
+    let of = |bytes| shelf_a_of(Kind::Temperature, vec![temperature_with(bytes)]);
+    let elements = [[91, 0, 21, 0], [92, 82, 0, 0]];
+    checks.equal(
+        "individual, else overall, else stored",
+        apply_thresholds(&of([90, 80, 20, 10]).block(), &threshold_page(&elements)),
+        accepted(&of([92, 82, 21, 10])),
+    );
+    let elements = [[9, 9, 9, 9], [200, 100, 100, 50]];
+    checks.equal(
+        "individual before overall",
+        apply_thresholds(&of([90, 80, 20, 10]).block(), &threshold_page(&elements)),
+        accepted(&of([200, 100, 100, 50])),
+    );
+}
+
+fn temperature_with(bytes: [u8; 4]) -> Element {
+    temperature(64, Thresholds::from_bytes(bytes))
+}
+
+fn thresholds_refused(checks: &mut Checks) {
+    let cases: [(Kind, [u8; 4], [u8; 4], u8); 14] = [
+        (Kind::Cooling, [0, 0, 0, 1], [0; 4], 7),
+        (Kind::Cooling, [0; 4], [1, 0, 0, 0], 7),
+        (Kind::Current, [0, 0, 1, 0], [0; 4], 7),
+        (Kind::Current, [0; 4], [0, 0, 0, 1], 7),
+        (Kind::Current, [0; 4], [9, 10, 0, 1], 7),
+        (Kind::Current, [0; 4], [9, 10, 0, 0], 8),
+        (Kind::Current, [9, 0, 0, 0], [0, 10, 0, 0], 8),
+        (Kind::Current, [9, 0, 0, 0], [10, 10, 0, 0], 0),
+        (Kind::Temperature, [9, 10, 0, 0], [0; 4], 8),
+        (Kind::Temperature, [9, 10, 0, 0], [0, 9, 0, 0], 0),
+        (Kind::Temperature, [0, 0, 9, 0], [0, 0, 0, 10], 8),
+        (Kind::Temperature, [0, 0, 10, 0], [0, 0, 0, 9], 0),
+        (Kind::Voltage, [0, 0, 10, 0], [0, 0, 0, 9], 8),
+        (Kind::Voltage, [0, 0, 9, 0], [0, 0, 0, 10], 0),
+    ];
+    for (kind, overall, individual, number) in cases {
+        let block = shelf_a_of(kind, vec![plain(kind)]).block();
+        let answer = apply_thresholds(&block, &threshold_page(&[overall, individual]));
+        let what = format!("{kind:?}, {overall:?}, {individual:?}");
+        checks.equal(&what, answer.number, number);
+    }
+    for kind in [Kind::Cooling, Kind::Current] {
+        let empty = shelf_a_of(kind, Vec::new()).block();
+        let answer = apply_thresholds(&empty, &threshold_page(&[[0, 0, 0, 1]]));
+        checks.equal("a type without elements", answer, refused(7, &empty));
+    }
+    let mut two_types = shelf_a_of(Kind::Current, vec![current(1, 1, Thresholds::default())]);
+    two_types.groups.push(group(Kind::Cooling, vec![fan(3)]));
+    let block = two_types.block();
+    let elements = [[0; 4], [9, 10, 0, 0], [0; 4], [0, 0, 0, 1]];
+    let page = threshold_page(&elements);
+    checks.equal(
+        "8 first on the page, 7 behind it",
+        apply_thresholds(&block, &page),
+        refused(7, &block),
+    );
+    checks.equal(
+        "6, 7 and 8",
+        apply_thresholds(&block, &with(&page, 1, &[1])),
+        refused(6, &block),
+    );
+}
+
+/// Only the last element's stored byte is out of order with the overall one; no element takes it then.
+fn order_in_one_of_many(checks: &mut Checks) {
+    let of =
+        |stored: [[u8; 4]; 3]| shelf_a_of(Kind::Temperature, stored.map(temperature_with).to_vec());
+    let before = of([[90, 60, 0, 0], [90, 70, 0, 0], [90, 71, 0, 0]]);
+    let lower = [[70, 0, 0, 0], [0; 4], [0; 4], [0; 4]];
+    checks.equal(
+        "overall 70 under a stored 71",
+        apply_thresholds(&before.block(), &threshold_page(&lower)),
+        refused(8, &before.block()),
+    );
+    let saved = [[70, 0, 0, 0], [0; 4], [0; 4], [71, 0, 0, 0]];
+    checks.equal(
+        "an individual byte keeps the order",
+        apply_thresholds(&before.block(), &threshold_page(&saved)),
+        accepted(&of([[70, 60, 0, 0], [70, 70, 0, 0], [71, 71, 0, 0]])),
+    );
+}
+
+/// The blocks may differ in the four bytes from this place on of each element, and nowhere else.
+fn alike_but_for(from: usize, before: &[u8], after: &[u8]) -> bool {
+    let without = |block: &[u8]| {
+        let mut rest = block.to_vec();
+        for element in rest[ELEMENTS_AT..].chunks_mut(ELEMENT_BYTES) {
+            element[from..from + 4].fill(0);
+        }
+        rest
+    };
+    without(before) == without(after)
+}
+
+fn control_laws(checks: &mut Checks) {
+    let mut rng = Rng::new(SEED);
+    for _ in 0..ROUNDS {
+        let shelf = cases::shelf(&mut rng);
+        let before = shelf.block();
+        let page = control::accepted_page(&mut rng, &shelf);
+        let answer = apply_control(&before, &page);
+        checks.equal("control page accepted", answer.number, 0);
+        let after = &answer.bytes[1..];
+        checks.equal("settings alone", alike_but_for(0, &before, after), true);
+        let again = apply_control(after, &page);
+        checks.equal("the same page again", &again, &answer);
+        let mut unselected = page.clone();
+        for element in unselected[8..].chunks_mut(4) {
+            element[0] &= 0x7F;
+        }
+        let unchanged = apply_control(&before, &unselected);
+        checks.equal("no SELECT", unchanged, accepted(&shelf));
+    }
+}
+
+fn threshold_laws(checks: &mut Checks) {
+    let mut rng = Rng::new(SEED);
+    for _ in 0..ROUNDS {
+        let shelf = cases::shelf(&mut rng);
+        let before = shelf.block();
+        let page = threshold_out::accepted_page(&mut rng, &shelf);
+        let answer = apply_thresholds(&before, &page);
+        checks.equal("threshold page accepted", answer.number, 0);
+        let after = &answer.bytes[1..];
+        checks.equal("thresholds alone", alike_but_for(4, &before, after), true);
+        let again = apply_thresholds(after, &page);
+        checks.equal("the same page again", &again, &answer);
+        let zeros = [&page[..8], &vec![0; page.len() - 8]].concat();
+        let unchanged = apply_thresholds(&before, &zeros);
+        checks.equal("zeros", unchanged, accepted(&shelf));
+    }
+}

@@ -4,7 +4,7 @@ use mathlib.Core.Bool.{Bool, true, false}
 use mathlib.Core.List.{List}
 use mathlib.Core.Logic.{_⊎_, inl, inr, ⊎-elim}
 use Prim.Native.Nat.{ℕ, zero, suc, _+_, _*_, _<_, _≤_}
-use native.Mathlib.Nat.{not-suc-le-zero, le-of-suc-le-suc, eq-or-lt-of-le}
+use native.Mathlib.Nat.{add-zero, not-suc-le-zero, le-of-suc-le-suc, eq-or-lt-of-le}
 use native.Mathlib.Numerals.{add-one}
 use native.Mathlib.Omega.{arith}
 use lib.Dec.{leb}
@@ -32,6 +32,14 @@ four-other s k f m h =
       put-other s k f (m + 2) (outside m k 2 h (omega arith)),
       put-other s k f (m + 3) (outside m k 3 h (omega arith)),
     )
+
+-- a byte of four that are the same
+pub four-byte : (x y : List ℕ) (m : ℕ) → fourAt x m ≡ fourAt y m → (k : ℕ) → k < 4 → getD x (m + k) 0 ≡ getD y (m + k) 0
+four-byte x y m e zero l = rw add-zero (ap (λ (r : List ℕ). getD r 0 0) e)
+four-byte x y m e (suc zero) l = ap (λ (r : List ℕ). getD r 1 0) e
+four-byte x y m e (suc (suc zero)) l = ap (λ (r : List ℕ). getD r 2 0) e
+four-byte x y m e (suc (suc (suc zero))) l = ap (λ (r : List ℕ). getD r 3 0) e
+four-byte x y m e (suc (suc (suc (suc k)))) l = absurd (omega arith)
 
 -- what stands already is put again
 pub put-same : (s : List ℕ) (k : ℕ) → putFour s k (fourAt s k) ≡ s

@@ -23,6 +23,10 @@ settingsAfter s p j = settled (placesOf s j .kind) (actingAt p (placesOf s j)) (
 unfoldable pub broughtTo : List ℕ → List ℕ → List ℕ
 broughtTo s p = joined (settingsAfter s p) (elementsOf s)
 
+-- the settings that a shelf has, in the same form
+abbrev pub storedSettings : List ℕ → List ℕ
+storedSettings s = joined (settingsAt s) (elementsOf s)
+
 -- the four bytes of element j in such a list
 abbrev pub settingsIn : List ℕ → ℕ → List ℕ
 settingsIn w j = fourAt w (4 * j)

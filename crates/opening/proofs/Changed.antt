@@ -1,18 +1,19 @@
 -- A shelf after four bytes of each of its first n elements were put anew, from the offset o of an element on. Assumes nothing.
-use mathlib.Core.Path.{_≡_, refl, sym, ap, _∙_}
+use mathlib.Core.Path.{_≡_, sym, ap, _∙_}
 use mathlib.Core.Bool.{Bool, true, _&&_}
 use mathlib.Core.List.{List}
 use mathlib.Core.Logic.{_⊎_, inl, inr, ⊎-elim}
-use Prim.Native.Nat.{ℕ, _+_, _<_, _≤_}
+use Prim.Native.Nat.{ℕ, _+_, _<_, _≤_, _-_}
 use native.Mathlib.Omega.{arith}
 use lib.Dec.{eqb, ltb}
 use lib.ListN.{length, getD}
 use borrow.Author.Tests.{eq-eqb, ltb-true, ltb-false}
 use Rattle.bits.specs.Choice.{allBelow}
-use Rattle.bits.specs.Places.{fourAt, foursPut}
+use Rattle.bits.specs.Numbers.{big}
+use Rattle.bits.specs.Places.{twoAt, fourAt, foursPut}
 use Rattle.bits.proofs.Logic.{by-case, and-right, and-both, below-at, below-all}
 use Rattle.bits.proofs.Placed.{Outside}
-use Rattle.bits.proofs.Fours.{Apart, length-fours, byte-kept, four-kept, front-kept, row-back}
+use Rattle.bits.proofs.Fours.{Apart, four-byte, length-fours, byte-kept, four-kept, front-kept, row-back}
 use Rattle.kinds.specs.Types.{readingAllowed, nominalAllowed}
 use Rattle.kinds.specs.Settings.{settingsFormed}
 use Rattle.verdicts.specs.Thresholds.{had, ordered}
@@ -25,7 +26,7 @@ use Rattle.opening.proofs.Typed.{front-formed}
 use Rattle.opening.proofs.Parts.{in-element}
 use Rattle.opening.proofs.Fronts.{front, elements-alike, kind-alike, front-alike}
 
-module _ (at : ℕ → ℕ) (o : ℕ) (place : (j : ℕ) → at j ≡ elementPlace j + o) (low : o + 4 ≤ 16) where
+module _ (at : ℕ → ℕ) (o : ℕ) (place : (j : ℕ) → at j ≡ elementPlace j + o) (low : o + 4 ≤ 8) where
   -- an offset of an element beside the four bytes is beside those of every element
   beside : (j q : ℕ) → q < 16 → Outside q o → (k : ℕ) → Outside (elementPlace j + q) (at k)
   beside j q l h k =
@@ -63,7 +64,7 @@ module _ (at : ℕ → ℕ) (o : ℕ) (place : (j : ℕ) → at j ≡ elementPla
     front-after = front-kept at f s (elementPlace 0) n (λ k l. omega (arith, place k))
 
     -- every other byte of an element
-    pub byte-after : (j q : ℕ) → q < 16 → Outside q o → getD (foursPut at f s n) (elementPlace j + q) 0 ≡ getD s (elementPlace j + q) 0
+    byte-after : (j q : ℕ) → q < 16 → Outside q o → getD (foursPut at f s n) (elementPlace j + q) 0 ≡ getD s (elementPlace j + q) 0
     byte-after j q l h = byte-kept at f s n (elementPlace j + q) (λ k m. beside j q l h k)
 
     pub four-after : (j q : ℕ) → q + 4 ≤ 16 → Apart q o → fourAt (foursPut at f s n) (elementPlace j + q) ≡ fourAt s (elementPlace j + q)
@@ -76,6 +77,34 @@ module _ (at : ℕ → ℕ) (o : ℕ) (place : (j : ℕ) → at j ≡ elementPla
     -- an element that was reached
     pub row-after : (j : ℕ) → j < n → elementPlace j + 16 ≤ length s → fourAt (foursPut at f s n) (at j) ≡ fourAt (f j) 0
     row-after j h r = row-back at f s n j h (omega (arith, place j)) (λ k l m. rows-apart j k l)
+
+    -- what stands behind settings and thresholds
+    pub reading-after : (j : ℕ) → readingAt (foursPut at f s n) j ≡ readingAt s j
+    unfolding readingAt
+    reading-after j = ap (λ (e : List ℕ). big (twoAt e 0)) (four-after j 8 (omega arith) (inr (omega arith)))
+
+    pub nominal-after : (j : ℕ) → nominalAt (foursPut at f s n) j ≡ nominalAt s j
+    unfolding nominalAt
+    nominal-after j = ap (λ (e : List ℕ). big (twoAt e 0)) (four-after j 10 (omega arith) (inr (omega arith)))
+
+    pub spare-after : (j : ℕ) → spareAt (foursPut at f s n) j ≡ spareAt s j
+    unfolding spareAt
+    spare-after j = four-after j 12 (omega arith) (inr (omega arith))
+
+    -- an element whose four bytes are the same keeps every byte
+    pub element-kept : (j : ℕ) → fourAt (foursPut at f s n) (at j) ≡ fourAt s (at j) → (q : ℕ) → q < 16
+        → getD (foursPut at f s n) (elementPlace j + q) 0 ≡ getD s (elementPlace j + q) 0
+    element-kept j e q l =
+        by-case (ltb q o)
+        (λ a. let b = ltb-true q o a in byte-after j q l (inl b))
+        (λ a.
+        let b = ltb-false q o a in
+        by-case (ltb q (o + 4))
+        (λ c.
+        let d = ltb-true q (o + 4) c in
+        let m : elementPlace j + q ≡ at j + (q - o) = omega (arith, place j) in
+        ap (λ (i : ℕ). getD (foursPut at f s n) i 0) m ∙ four-byte (foursPut at f s n) s (at j) e (q - o) (omega arith) ∙ ap (λ (i : ℕ). getD s i 0) (sym m))
+        (λ c. let d = ltb-false q (o + 4) c in byte-after j q l (inr d)))
 
 -- a shelf with the same front, the same length and well-formed elements is well formed
 pub formed-alike : (s x : List ℕ) → wellFormed s ≡ true → front x ≡ front s → length x ≡ length s

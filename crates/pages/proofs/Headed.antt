@@ -9,10 +9,12 @@ use lib.ListN.{length, getD, drop}
 use Rattle.bits.specs.Numbers.{bytes}
 use Rattle.bits.specs.Places.{fourAt, putFour}
 use Rattle.bits.proofs.Rows.{put-next}
-use Rattle.refusals.specs.declared.Refusal.the-variants.{PageTooShort, PageCode, PageLength, Generation}
+use Rattle.refusals.specs.declared.Refusal.the-variants.{ShelfNotWellFormed, PageTooShort, PageCode, PageLength, Generation}
 use Rattle.refusals.specs.declared.Refusal.{Refusal}
 use Rattle.refusals.specs.declared.Answer.{Answer}
 use Rattle.refusals.specs.declared.Answer.the-variants.{Accepted, Refused}
+use Rattle.refusals.proofs.Passed.{held, held-both}
+use Rattle.opening.specs.Formed.{wellFormed}
 use Rattle.pages.specs.Slots.{slotsOf, slotPlace}
 use Rattle.pages.specs.Header.{shelfAsked, pageAsked, lengthSaid, generationOn, generationOf, headed, header, headPut}
 
@@ -69,3 +71,9 @@ module _ (s p : List ℕ) (code : ℕ) {a : Answer} (h : a ≡ shelfAsked s) whe
   pub page-asked : {b : Answer} {n : ℕ} → a ≡ Accepted → n ≡ slotsOf s → b ≡ headed s p code n → b ≡ pageAsked s p code
   unfolding pageAsked
   page-asked u q e = e ∙ sym (rw (← h, u, ← q))
+
+-- what an accepted page says of the shelf
+pub asked-formed : (s p : List ℕ) (code : ℕ) → pageAsked s p code ≡ Accepted → wellFormed s ≡ true
+unfolding pageAsked
+asked-formed s p code e =
+    held (wellFormed s) ShelfNotWellFormed Accepted (held-both (shelfAsked s) (headed s p code (slotsOf s)) e .0) .0

@@ -6,7 +6,7 @@ use native.Mathlib.Omega.{arith}
 use Rattle.refusals.specs.declared.Refusal.{Refusal}
 use Rattle.refusals.specs.declared.Answer.{Answer}
 use Rattle.refusals.specs.declared.Answer.the-variants.{Accepted, Refused}
-use Rattle.refusals.specs.Outcomes.{unless, next}
+use Rattle.refusals.specs.Outcomes.{unless, next, accepts}
 
 pub held : (t : Bool) (r : Refusal) (rest : Answer) → unless t r rest ≡ Accepted → (t ≡ true) × (rest ≡ Accepted)
 held true r rest e = (refl, e)
@@ -15,3 +15,7 @@ held false r rest e = let z : _≡_ {A = ℕ} 0 1 = cc in absurd (omega arith)
 pub held-both : (a rest : Answer) → next a rest ≡ Accepted → (a ≡ Accepted) × (rest ≡ Accepted)
 held-both Accepted rest e = (refl, e)
 held-both (Refused r) rest e = let z : _≡_ {A = ℕ} 0 1 = cc in absurd (omega arith)
+
+pub accepted : (a : Answer) → accepts a ≡ true → a ≡ Accepted
+accepted Accepted e = refl
+accepted (Refused r) e = let z : _≡_ {A = ℕ} 0 1 = cc in absurd (omega arith)

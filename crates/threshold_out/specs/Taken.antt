@@ -22,6 +22,10 @@ thresholdsAfter s p j = takenAt p (placesOf s j) (thresholdsAt s j)
 unfoldable pub takenFrom : List ℕ → List ℕ → List ℕ
 takenFrom s p = joined (thresholdsAfter s p) (elementsOf s)
 
+-- the thresholds that a shelf has, in the same form
+abbrev pub storedThresholds : List ℕ → List ℕ
+storedThresholds s = joined (thresholdsAt s) (elementsOf s)
+
 -- the four bytes of element j in such a list
 abbrev pub thresholdsIn : List ℕ → ℕ → List ℕ
 thresholdsIn w j = fourAt w (4 * j)

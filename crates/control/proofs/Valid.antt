@@ -2,7 +2,7 @@
 use mathlib.Core.Path.{_≡_, refl, sym, ap, _∙_}
 use mathlib.Core.Bool.{Bool, true, false, not}
 use mathlib.Core.List.{List, [], _∷_}
-use Prim.Native.Nat.{ℕ, _+_, _<_}
+use Prim.Native.Nat.{ℕ, _<_}
 use native.Mathlib.Omega.{arith}
 use lib.Dec.{eqb}
 use lib.ListN.{getD}
@@ -12,7 +12,6 @@ use Rattle.bits.specs.Bits.{only}
 use Rattle.bits.proofs.Logic.{pick-yes, fails, below-all}
 use Rattle.bits.proofs.Offence.{refused-none, row-fine}
 use Rattle.refusals.specs.declared.Refusal.the-variants.{NotAllowed}
-use Rattle.refusals.specs.declared.Answer.{Answer}
 use Rattle.refusals.specs.declared.Answer.the-variants.{Accepted}
 use Rattle.refusals.specs.Outcomes.{unless}
 use Rattle.refusals.proofs.Passed.{accepted, held, held-both}

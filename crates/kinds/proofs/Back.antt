@@ -1,6 +1,6 @@
 -- Settings and the four bytes that store them say the same, each way round, and a control element keeps them storable. Assumes nothing.
 use mathlib.Core.Path.{_≡_, refl, sym, _∙_}
-use mathlib.Core.Bool.{Bool, true, false, not, _&&_}
+use mathlib.Core.Bool.{Bool, true, false, not}
 use mathlib.Core.List.{List, [], _∷_}
 use Prim.Native.Nat.{ℕ, _%_, _<_}
 use native.Mathlib.Omega.{arith}
@@ -14,9 +14,8 @@ use Rattle.bits.proofs.Halves.{flags-high, join-low, join-three, low-three, aga
 use Rattle.kinds.specs.declared.types.Kind.{Kind}
 use Rattle.kinds.specs.declared.types.Kind.the-variants.{Cooling, Temperature, Voltage, Current}
 use Rattle.kinds.specs.declared.settings.Settings.{Settings}
-use Rattle.kinds.specs.declared.control.Control.{Control}
 use Rattle.kinds.specs.Settings.{fanSettings, sensorSettings, settingsOf, fanBytes, sensorBytes, settingsBytes, secondNamed, fourthNamed, speedFormed, settingsFormed}
-use Rattle.kinds.specs.Control.{selected, unselected, asking, controlOf, speedAfter, acted}
+use Rattle.kinds.specs.Control.{asking, speedAfter, acted}
 
 -- ON and SPEED, which fans alone have, are as a sensor's bytes say them
 abbrev pub Fanless : Settings → Type 0

@@ -7,7 +7,7 @@ use native.Mathlib.Nat.{add-zero}
 use native.Mathlib.Omega.{arith}
 use lib.Dec.{ltb}
 use borrow.Author.Tests.{ltb-true, ltb-false, lt-ltb, le-ltb, eq-eqb}
-use Rattle.bits.specs.Choice.{pick, firstBelow}
+use Rattle.bits.specs.Choice.{firstBelow}
 use Rattle.bits.proofs.Logic.{never, pick-no, first-same, fails, below-all, first-passes, first-fails, first-at}
 use Rattle.kinds.specs.Types.{kindOf}
 use Rattle.shelf.specs.Limits.{mostTypes}

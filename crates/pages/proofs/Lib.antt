@@ -6,4 +6,5 @@ pub mod Bounds
 pub mod Fitted
 pub mod Fronted
 pub mod Paired
+pub mod Alike
 pub mod HeadAgain

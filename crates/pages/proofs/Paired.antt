@@ -11,7 +11,7 @@ use Rattle.bits.proofs.Logic.{fails, below-all, first-at}
 use Rattle.kinds.specs.declared.types.Kind.{Kind}
 use Rattle.kinds.specs.Types.{kindOf}
 use Rattle.shelf.specs.declared.types.Typed.{Typed}
-use Rattle.shelf.specs.Types.{typesOf, typeCode, elementsOf, typeOf, typedAt, kindAt}
+use Rattle.shelf.specs.Types.{typeCode, elementsOf, typeOf, typedAt, kindAt}
 use Rattle.shelf.specs.Limits.{mostTypes}
 use Rattle.shelf.proofs.Counts.{kind-is}
 use Rattle.opening.specs.Formed.{frontFormed}

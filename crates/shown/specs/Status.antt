@@ -4,7 +4,7 @@ use mathlib.Core.List.{List, [], _∷_}
 use Prim.Native.Nat.{ℕ, _+_, _*_, _/_, _%_}
 use lib.Dec.{eqb, leb}
 use lib.ListN.{getD}
-use Rattle.bits.specs.Choice.{pick, firstOf}
+use Rattle.bits.specs.Choice.{firstOf}
 use Rattle.bits.specs.Bits.{bit, only, nibble, join}
 use Rattle.bits.specs.Numbers.{big, bytes}
 use Rattle.kinds.specs.declared.types.Kind.{Kind}

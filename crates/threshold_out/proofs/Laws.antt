@@ -1,6 +1,6 @@
 -- What an accepted Threshold Out page changes, and that it changes nothing else. Assumes nothing.
-use mathlib.Core.Path.{_≡_, refl, sym, ap, _∙_}
-use mathlib.Core.Bool.{Bool, true, false}
+use mathlib.Core.Path.{_≡_, sym, ap, _∙_}
+use mathlib.Core.Bool.{true}
 use mathlib.Core.List.{List, [], _∷_}
 use mathlib.Core.Logic.{inl}
 use Prim.Native.Nat.{ℕ, _+_, _<_}
@@ -8,23 +8,22 @@ use native.Mathlib.Nat.{add-zero}
 use native.Mathlib.Omega.{arith}
 use lib.ListN.{length, getD}
 use Rattle.bits.specs.Choice.{pick}
-use Rattle.bits.specs.Places.{fourAt, foursPut}
+use Rattle.bits.specs.Places.{fourAt}
 use Rattle.bits.specs.Rows.{joined}
-use Rattle.bits.proofs.Logic.{by-case, pick-yes, pick-no}
-use Rattle.bits.proofs.Fours.{rows-same}
+use Rattle.bits.proofs.Logic.{by-case, pick-no}
 use Rattle.bits.proofs.Rows.{joined-four, joined-same}
 use Rattle.kinds.specs.Settings.{settingsFormed}
 use Rattle.verdicts.specs.Thresholds.{had, ordered}
 use Rattle.verdicts.proofs.Joining.{taken-none}
 use Rattle.shelf.specs.Limits.{elementPlace, thresholdsPlace}
 use Rattle.shelf.specs.Types.{elementsOf, kindAt}
-use Rattle.shelf.specs.Elements.{settingsAt, thresholdsAt, readingAt, nominalAt, spareAt}
+use Rattle.shelf.specs.Elements.{settingsAt, thresholdsAt, readingAt, nominalAt}
 use Rattle.opening.specs.Formed.{wellFormed}
 use Rattle.opening.proofs.Stored.{room}
 use Rattle.opening.proofs.Typed.{front-formed}
 use Rattle.opening.proofs.Parts.{in-element}
 use Rattle.opening.proofs.Fronts.{front, elements-alike}
-use Rattle.opening.proofs.Changed.{length-after, front-after, four-after, row-after, reading-after, nominal-after, spare-after, element-kept, formed-alike, element-alike}
+use Rattle.opening.proofs.Changed.{length-same, front-same, four-same, reading-same, nominal-same, row-put, element-same, rows-unmoved, formed-same}
 use Rattle.pages.specs.Slots.{slotsOf, slotPlace}
 use Rattle.pages.specs.Places.{ownSlot, overallSlot, placesOf}
 use Rattle.pages.proofs.Paired.{own-there, overall-there}
@@ -44,39 +43,30 @@ module _ (s p : List ℕ) where
   abbrev f : ℕ → List ℕ
   f = thresholdsIn (takenFrom s p)
 
-  -- what holds of the shelf as it was and of the shelf with other thresholds
-  either : (P : List ℕ → Type 0) → P s → P (foursPut thresholdsPlace f s n) → P (after s p)
-  unfolding withThresholds
-  either P a b = go (valid s p)
-    where
-      go : (t : Bool) → P (pick t (foursPut thresholdsPlace f s n) s)
-      go true = b
-      go false = a
-
   pub length-kept : length (after s p) ≡ length s
-  length-kept = either (λ (x : List ℕ). length x ≡ length s) refl (length-after thresholdsPlace 4 thresholds-place (omega arith) f s n)
+  unfolding withThresholds
+  length-kept = length-same thresholdsPlace 4 thresholds-place (omega arith) f s n (valid s p)
 
   -- the configuration part never changes
   pub configuration-kept : front (after s p) ≡ front s
-  configuration-kept = either (λ (x : List ℕ). front x ≡ front s) refl (front-after thresholdsPlace 4 thresholds-place (omega arith) f s n)
+  unfolding withThresholds
+  configuration-kept = front-same thresholdsPlace 4 thresholds-place (omega arith) f s n (valid s p)
 
   -- every element keeps settings, reading and nominal
   module _ (j : ℕ) where
     pub settings-kept : settingsAt (after s p) j ≡ settingsAt s j
-    unfolding settingsAt
+    unfolding withThresholds settingsAt
     settings-kept =
         let e : elementPlace j ≡ elementPlace j + 0 = sym (add-zero (elementPlace j)) in
-        either (λ (x : List ℕ). fourAt x (elementPlace j) ≡ fourAt s (elementPlace j)) refl
-        (rw e (four-after thresholdsPlace 4 thresholds-place (omega arith) f s n j 0 (omega arith) (inl (omega arith))))
+        rw e (four-same thresholdsPlace 4 thresholds-place (omega arith) f s n (valid s p) j 0 (omega arith) (inl (omega arith)))
 
     pub reading-kept : readingAt (after s p) j ≡ readingAt s j
-    reading-kept = either (λ (x : List ℕ). readingAt x j ≡ readingAt s j) refl (reading-after thresholdsPlace 4 thresholds-place (omega arith) f s n j)
+    unfolding withThresholds
+    reading-kept = reading-same thresholdsPlace 4 thresholds-place (omega arith) f s n (valid s p) j
 
     pub nominal-kept : nominalAt (after s p) j ≡ nominalAt s j
-    nominal-kept = either (λ (x : List ℕ). nominalAt x j ≡ nominalAt s j) refl (nominal-after thresholdsPlace 4 thresholds-place (omega arith) f s n j)
-
-    spare-kept : spareAt (after s p) j ≡ spareAt s j
-    spare-kept = either (λ (x : List ℕ). spareAt x j ≡ spareAt s j) refl (spare-after thresholdsPlace 4 thresholds-place (omega arith) f s n j)
+    unfolding withThresholds
+    nominal-kept = nominal-same thresholdsPlace 4 thresholds-place (omega arith) f s n (valid s p) j
 
   taken-row : (j : ℕ) → j < n → f j ≡ thresholdsAfter s p j
   unfolding takenFrom
@@ -84,16 +74,10 @@ module _ (s p : List ℕ) where
 
   -- an accepted page brings the shelf to its thresholds
   module _ (v : valid s p ≡ true) where
-    changed : after s p ≡ foursPut thresholdsPlace f s n
-    unfolding withThresholds
-    changed = pick-yes (valid s p) (withThresholds s (takenFrom s p)) s v
-
     pub thresholds-reached : (j : ℕ) → j < n → thresholdsAt (after s p) j ≡ thresholdsAfter s p j
-    unfolding thresholdsAt
+    unfolding withThresholds thresholdsAt
     thresholds-reached j l =
-        ap (λ (x : List ℕ). fourAt x (thresholdsPlace j)) changed
-        ∙ row-after thresholdsPlace 4 thresholds-place (omega arith) f s n j l (room s j (valid-formed s p v) l)
-        ∙ taken-row j l
+        row-put thresholdsPlace 4 thresholds-place (omega arith) f s n (valid s p) v j l (room s j (valid-formed s p v) l) ∙ taken-row j l
 
     pub reached : storedThresholds (after s p) ≡ takenFrom s p
     unfolding takenFrom
@@ -105,51 +89,41 @@ module _ (s p : List ℕ) where
   abbrev pub Silent : ℕ → Type 0
   Silent i = fourAt p (slotPlace i) ≡ 0 ∷ 0 ∷ 0 ∷ 0 ∷ []
 
-  same : (j : ℕ) → Silent (overallSlot s j) → Silent (ownSlot s j) → thresholdsAfter s p j ≡ thresholdsAt s j
-  unfolding thresholdsAfter placesOf thresholdsAt
-  same j a b = taken-none (thresholdsAt s j) b a
-
   -- an element of which nothing is asked keeps every byte
-  pub unchosen-kept : (j q : ℕ) → j < n → q < 16 → Silent (overallSlot s j) → Silent (ownSlot s j)
-      → getD (after s p) (elementPlace j + q) 0 ≡ getD s (elementPlace j + q) 0
-  unchosen-kept j q l m a b = by-case (valid s p) accepted-kept refused-kept
-    where
-      refused-kept : valid s p ≡ false → getD (after s p) (elementPlace j + q) 0 ≡ getD s (elementPlace j + q) 0
-      refused-kept v = ap (λ (x : List ℕ). getD x (elementPlace j + q) 0) (pick-no (valid s p) (withThresholds s (takenFrom s p)) s v)
+  module _ (j : ℕ) (l : j < n) (a : Silent (overallSlot s j)) (b : Silent (ownSlot s j)) where
+    same : thresholdsAfter s p j ≡ thresholdsAt s j
+    unfolding thresholdsAfter placesOf thresholdsAt
+    same = taken-none (thresholdsAt s j) b a
 
-      row-same : valid s p ≡ true → fourAt (foursPut thresholdsPlace f s n) (thresholdsPlace j) ≡ fourAt s (thresholdsPlace j)
-      row-same v = ap (λ (x : List ℕ). fourAt x (thresholdsPlace j)) (sym (changed v)) ∙ (unfold thresholdsAt in thresholds-reached v j l ∙ same j a b)
-
-      accepted-kept : valid s p ≡ true → getD (after s p) (elementPlace j + q) 0 ≡ getD s (elementPlace j + q) 0
-      accepted-kept v =
-          ap (λ (x : List ℕ). getD x (elementPlace j + q) 0) (changed v)
-          ∙ element-kept thresholdsPlace 4 thresholds-place (omega arith) f s n j (row-same v) q m
+    pub unchosen-kept : (q : ℕ) → q < 16 → getD (after s p) (elementPlace j + q) 0 ≡ getD s (elementPlace j + q) 0
+    unfolding withThresholds thresholdsAt
+    unchosen-kept q m =
+        element-same thresholdsPlace 4 thresholds-place (omega arith) f s n (valid s p) j (λ v. thresholds-reached v j l ∙ same) q m
 
   -- a well-formed shelf stays well formed
-  pub stays-formed : wellFormed s ≡ true → wellFormed (after s p) ≡ true
-  stays-formed w = by-case (valid s p) accepted-formed refused-formed
-    where
-      refused-formed : valid s p ≡ false → wellFormed (after s p) ≡ true
-      refused-formed v = ap wellFormed (pick-no (valid s p) (withThresholds s (takenFrom s p)) s v) ∙ w
+  module _ (w : wellFormed s ≡ true) where
+    thresholds : (j : ℕ) → j < n
+        → (had (kindAt s j) (thresholdsAt (after s p) j) ≡ true) × (ordered (kindAt s j) (thresholdsAt (after s p) j) ≡ true)
+    thresholds j l =
+        let k = kindAt s j in
+        by-case (valid s p)
+        (λ v. (ap (had k) (thresholds-reached v j l) ∙ after-had s p v j l, ap (ordered k) (thresholds-reached v j l) ∙ after-ordered s p v j l))
+        (λ v.
+        let e = ap (λ (x : List ℕ). thresholdsAt x j) (pick-no (valid s p) (withThresholds s (takenFrom s p)) s v) in
+        (ap (had k) e ∙ in-element s w j l .1, ap (ordered k) e ∙ in-element s w j l .2))
 
-      accepted-formed : valid s p ≡ true → wellFormed (after s p) ≡ true
-      accepted-formed v =
-          formed-alike s (after s p) w configuration-kept length-kept
-          (λ j l.
-          element-alike s (after s p) configuration-kept w j l
-          (ap (settingsFormed (kindAt s j)) (settings-kept j) ∙ in-element s w j l .0)
-          (ap (had (kindAt s j)) (thresholds-reached v j l) ∙ after-had s p v j l)
-          (ap (ordered (kindAt s j)) (thresholds-reached v j l) ∙ after-ordered s p v j l)
-          (reading-kept j)
-          (nominal-kept j)
-          (spare-kept j))
+    pub stays-formed : wellFormed (after s p) ≡ true
+    unfolding withThresholds
+    stays-formed =
+        formed-same thresholdsPlace 4 thresholds-place (omega arith) f s n (valid s p) w
+        (λ j l.
+        let t = thresholds j l in (ap (settingsFormed (kindAt s j)) (settings-kept j) ∙ in-element s w j l .0, t .0, t .1))
 
   -- a page of zeros changes nothing
   pub no-thresholds : wellFormed s ≡ true → ((i : ℕ) → i < slotsOf s → Silent i) → after s p ≡ s
-  unfolding thresholdsAt
+  unfolding withThresholds thresholdsAt
   no-thresholds w h =
-      either (λ (x : List ℕ). x ≡ s) refl
-      (rows-same thresholdsPlace f s n
+      rows-unmoved thresholdsPlace 4 thresholds-place (omega arith) f s n (valid s p)
       (λ j l.
       let e = front-formed s w in
-      taken-row j l ∙ same j (h (overallSlot s j) (overall-there s j l e)) (h (ownSlot s j) (own-there s j l e))))
+      taken-row j l ∙ same j l (h (overallSlot s j) (overall-there s j l e)) (h (ownSlot s j) (own-there s j l e)))

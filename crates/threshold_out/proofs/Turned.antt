@@ -12,14 +12,14 @@ use Rattle.refusals.specs.declared.Refusal.{Refusal}
 use Rattle.refusals.specs.declared.Refusal.the-variants.{NotAllowed, NoSuchThreshold, ThresholdOrder}
 use Rattle.refusals.specs.declared.Answer.{Answer}
 use Rattle.refusals.specs.declared.Answer.the-variants.{Accepted, Refused}
-use Rattle.shelf.specs.Types.{elementsOf, kindAt}
+use Rattle.shelf.specs.Types.{elementsOf}
 use Rattle.shelf.specs.Elements.{thresholdsAt}
 use Rattle.pages.specs.declared.places.Places.{Places}
 use Rattle.pages.specs.Places.{placesOf}
 use Rattle.pages.specs.Slots.{slotsOf}
 use Rattle.pages.specs.Header.{pageAsked}
 use Rattle.threshold_rows.specs.Rows.{onPage, allHad}
-use Rattle.threshold_out.specs.Taken.{takenAt, thresholdsAfter}
+use Rattle.threshold_out.specs.Taken.{takenAt}
 use Rattle.threshold_out.specs.Asked.{elementOrdered, allOrdered, thresholdsAsked}
 use Rattle.threshold_out.proofs.Acted.{after-is}
 

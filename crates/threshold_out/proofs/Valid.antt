@@ -1,5 +1,5 @@
 -- What the tests of a Threshold Out page say of each element. Assumes nothing.
-use mathlib.Core.Path.{_≡_, ap, _∙_}
+use mathlib.Core.Path.{_≡_}
 use mathlib.Core.Bool.{true}
 use mathlib.Core.List.{List}
 use Prim.Native.Nat.{ℕ, _<_}
@@ -7,7 +7,6 @@ use lib.Dec.{eqb}
 use lib.ListN.{getD}
 use Rattle.bits.specs.Places.{fourAt}
 use Rattle.bits.proofs.Logic.{below-at}
-use Rattle.kinds.specs.declared.types.Kind.{Kind}
 use Rattle.verdicts.specs.Thresholds.{had, ordered}
 use Rattle.verdicts.proofs.Joining.{taken-had}
 use Rattle.refusals.specs.declared.Refusal.the-variants.{NotAllowed, NoSuchThreshold, ThresholdOrder}

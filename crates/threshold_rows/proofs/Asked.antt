@@ -2,7 +2,7 @@
 use mathlib.Core.Path.{_≡_, refl, sym, ap, _∙_}
 use mathlib.Core.Bool.{true, false, not}
 use mathlib.Core.List.{List}
-use Prim.Native.Nat.{ℕ, _+_, _<_}
+use Prim.Native.Nat.{ℕ, _<_}
 use native.Mathlib.Omega.{arith}
 use lib.Dec.{eqb, ltb}
 use Rattle.bits.specs.Choice.{pick, refusedIn}
@@ -14,7 +14,7 @@ use Rattle.bits.proofs.Offence.{row-fine}
 use Rattle.threshold_rows.proofs.Turned.{none-refused}
 use Rattle.threshold_rows.specs.Rows.{rowPlace, offence, allHad, allOrdered, rowsAsked, rowAt, firstSet, rowOffending, rowHad, rowOrdered}
 use borrow.Author.Tests.{eqb-true, eq-eqb}
-use Rattle.bits.proofs.Logic.{pick-yes, fails, below-at, below-all}
+use Rattle.bits.proofs.Logic.{fails, below-at, below-all}
 use Rattle.verdicts.specs.Thresholds.{had, ordered}
 use Rattle.refusals.specs.declared.Answer.the-variants.{Accepted}
 use Rattle.refusals.proofs.Passed.{held}

@@ -8,10 +8,11 @@ use Rattle.kinds.specs.declared.types.Kind.{Kind}
 use Rattle.kinds.specs.declared.types.Kind.the-variants.{Cooling, Temperature, Voltage, Current}
 use Rattle.verdicts.specs.declared.verdict.Verdict.{Verdict}
 use Rattle.kinds.specs.Settings.{settingsOf}
-use Rattle.kinds.specs.Control.{controlOf, settled}
 use Rattle.verdicts.specs.Verdict.{verdictOf}
 use Rattle.shown.specs.Status.{shownBy, statusBytes}
 use Rattle.opening.specs.Formed.{wellFormed}
+use Rattle.control.specs.Asked.{valid}
+use Rattle.control.specs.Brought.{broughtTo}
 use Rattle.status.specs.Page.{statusPage}
 
 pub data Case : Type 0 where
@@ -19,8 +20,8 @@ pub data Case : Type 0 where
   shows : Kind → List ℕ → ℕ → ℕ → List ℕ → List ℕ → Case
   -- reading, nominal and thresholds of a sensor give this code and these limit bits, in the order of the thresholds
   judges : Kind → ℕ → ℕ → List ℕ → List ℕ → Case
-  -- a control element takes these settings to those
-  acts : Kind → List ℕ → List ℕ → List ℕ → Case
+  -- the control page is valid for the shelf, and brings it to these settings
+  brings : List ℕ → List ℕ → List ℕ → Case
   -- the shelf is well formed and has this status page
   tells : List ℕ → List ℕ → Case
 
@@ -31,14 +32,14 @@ limits v = v .code ∷ num (v .highcrit) ∷ num (v .highwarn) ∷ num (v .lowwa
 abbrev pub given : Case → List ℕ
 given (shows k s r n t b) = statusBytes k (shownBy k (settingsOf k s) r n t)
 given (judges k r n t v) = limits (verdictOf k false r n t)
-given (acts k c s w) = settled k (controlOf k c) s
+given (brings s p w) = num (valid s p) ∷ broughtTo s p
 given (tells s p) = num (wellFormed s) ∷ statusPage s
 
 -- what document 01 tells
 abbrev pub told : Case → List ℕ
 told (shows k s r n t b) = b
 told (judges k r n t v) = v
-told (acts k c s w) = w
+told (brings s p w) = 1 ∷ w
 told (tells s p) = 1 ∷ p
 
 -- no limit trips; the high critical one does; the high warning one does
@@ -65,9 +66,13 @@ warning h = 0 ∷ h ∷ 0 ∷ 0 ∷ []
 abbrev on : ℕ → List ℕ
 on n = 0 ∷ 0 ∷ 0 ∷ n ∷ []
 
--- a fan of A: ON, SPEED 3, with this reading below 256
+-- a fan with these settings, and a reading below 256
+abbrev fanAt : List ℕ → ℕ → List ℕ
+fanAt e r = e ++ none ++ (0 ∷ r ∷ 0 ∷ 0 ∷ []) ++ none
+
+-- a fan of A: ON, SPEED 3
 abbrev fan : ℕ → List ℕ
-fan r = on 0x23 ++ none ++ (0 ∷ r ∷ 0 ∷ 0 ∷ []) ++ none
+fan r = fanAt (on 0x23) r
 
 -- A: generation 7, one type, 03h, with three fans and the text "Fan"; its identification is zeros
 abbrev shelfA : List ℕ → List ℕ → List ℕ → List ℕ
@@ -82,10 +87,25 @@ shelfA x y z =
     ++ y
     ++ z
 
+-- A as it is told
+abbrev fansA : List ℕ
+fansA = shelfA (fan 120) (fan 120) (fan 120)
+
+-- a control page for A: its overall element, and the three individual ones
+abbrev control : List ℕ → List ℕ → List ℕ → List ℕ → List ℕ
+control o x y z = (0x02 ∷ 0x00 ∷ 0x00 ∷ 0x14 ∷ 0x00 ∷ 0x00 ∷ 0x00 ∷ 0x07 ∷ []) ++ o ++ x ++ y ++ z
+
+-- elements that ask for SPEED 5, and for nothing
+abbrev asks : List ℕ
+asks = 0x80 ∷ 0x00 ∷ 0x00 ∷ 0x25 ∷ []
+
+abbrev silent : List ℕ
+silent = 0x00 ∷ 0x00 ∷ 0x00 ∷ 0x00 ∷ []
+
 abbrev pub table : List Case
 table =
     -- A's status, whole
-    tells (shelfA (fan 120) (fan 120) (fan 120))
+    tells fansA
     ((0x02 ∷ 0x00 ∷ 0x00 ∷ 0x14 ∷ 0x00 ∷ 0x00 ∷ 0x00 ∷ 0x07 ∷ [])
     ++ (0x01 ∷ 0x00 ∷ 0x00 ∷ 0x00 ∷ [])
     ++ (0x01 ∷ 0x00 ∷ 0x78 ∷ 0x23 ∷ [])
@@ -100,16 +120,18 @@ table =
     ++ (0x01 ∷ 0x00 ∷ 0x78 ∷ 0x23 ∷ []))
     -- fans of A: ON, SPEED 3, reading 120
     ∷ shows Cooling (on 0x23) 120 0 none (0x01 ∷ 0x00 ∷ 0x78 ∷ 0x23 ∷ [])
-    -- wanted SPEED 5
-    ∷ acts Cooling (0x80 ∷ 0x00 ∷ 0x00 ∷ 0x25 ∷ []) (on 0x23) (on 0x25)
+    -- wanted SPEED 5 for all, for the middle fan, for the first two
+    ∷ brings fansA (control asks silent silent silent) (on 0x25 ++ on 0x25 ++ on 0x25)
+    ∷ brings fansA (control silent silent asks silent) (on 0x23 ++ on 0x25 ++ on 0x23)
+    ∷ brings fansA (control silent asks asks silent) (on 0x25 ++ on 0x25 ++ on 0x23)
     -- stored speeds 3, 4, 5, wanted IDENT on all
-    ∷ acts Cooling (0x80 ∷ 0x80 ∷ 0x00 ∷ 0x20 ∷ []) (on 0x23) (0x00 ∷ 0x80 ∷ 0x00 ∷ 0x23 ∷ [])
-    ∷ acts Cooling (0x80 ∷ 0x80 ∷ 0x00 ∷ 0x20 ∷ []) (on 0x24) (0x00 ∷ 0x80 ∷ 0x00 ∷ 0x24 ∷ [])
-    ∷ acts Cooling (0x80 ∷ 0x80 ∷ 0x00 ∷ 0x20 ∷ []) (on 0x25) (0x00 ∷ 0x80 ∷ 0x00 ∷ 0x25 ∷ [])
-    -- the first fan has SWAP, wanted cleared
-    ∷ acts Cooling (0x90 ∷ 0x00 ∷ 0x00 ∷ 0x20 ∷ []) (0x10 ∷ 0x00 ∷ 0x00 ∷ 0x23 ∷ []) (on 0x23)
+    ∷ brings (shelfA (fanAt (on 0x23) 120) (fanAt (on 0x24) 120) (fanAt (on 0x25) 120)) (control (0x80 ∷ 0x80 ∷ 0x00 ∷ 0x20 ∷ []) silent silent silent)
+    ((0x00 ∷ 0x80 ∷ 0x00 ∷ 0x23 ∷ []) ++ (0x00 ∷ 0x80 ∷ 0x00 ∷ 0x24 ∷ []) ++ (0x00 ∷ 0x80 ∷ 0x00 ∷ 0x25 ∷ []))
+    -- only the first fan has SWAP, wanted cleared
+    ∷ brings (shelfA (fanAt (0x10 ∷ 0x00 ∷ 0x00 ∷ 0x23 ∷ []) 120) (fan 120) (fan 120)) (control silent (0x90 ∷ 0x00 ∷ 0x00 ∷ 0x20 ∷ []) silent silent)
+    (on 0x23 ++ on 0x23 ++ on 0x23)
     -- wanted equal to stored: no SELECT
-    ∷ acts Cooling none (on 0x23) (on 0x23)
+    ∷ brings fansA (control silent silent silent silent) (on 0x23 ++ on 0x23 ++ on 0x23)
     -- a fan ON with reading 0: code 2
     ∷ shows Cooling (on 0x23) 0 0 none (0x02 ∷ 0x00 ∷ 0x00 ∷ 0x23 ∷ [])
     -- temperature byte 64 with high warning 64, and byte 65

@@ -9,6 +9,7 @@ enum { TYPES = 8, EACH = 8, ROUNDS = 2000 };
 
 static uint8_t shelf[SES_CONFIGURATION_LENGTH + 16 * TYPES * EACH];
 static uint8_t page[512], again[512];
+static uint8_t control[8 + 4 * (TYPES + TYPES * EACH)], limits[sizeof control];
 static uint32_t length;
 static struct ses_status status;
 static struct ses_thresholds thresholds;
@@ -37,6 +38,21 @@ static void make_shelf(void)
     }
 }
 
+/* A page that asks something of each type's overall element, and so of every element. */
+static void make_page(uint8_t *out, uint8_t code)
+{
+    out[0] = code;
+    out[2] = (sizeof control - 4) >> 8;
+    out[3] = (sizeof control - 4) & 0xFF;
+    for (int t = 0; t < TYPES; t++) {
+        uint8_t *overall = out + 8 + 4 * t * (1 + EACH);
+        if (code == 0x02)
+            overall[0] = 0x80;
+        else if (t % 4 != 0)
+            overall[0] = 60;
+    }
+}
+
 static double now(void)
 {
     struct timespec t;
@@ -58,6 +74,8 @@ int main(void)
 {
     size_t n = sizeof shelf, out = sizeof page, c = SES_CONFIGURATION_LENGTH;
     make_shelf();
+    make_page(control, 0x02);
+    make_page(limits, 0x05);
     MEASURE("check", ses_check(shelf, n));
     MEASURE("write_configuration", ses_write_configuration(shelf, n, page, out, &length));
     MEASURE("read_configuration", ses_read_configuration(page, length, again));
@@ -68,6 +86,8 @@ int main(void)
     MEASURE("write_thresholds", ses_write_thresholds(shelf, n, page, out, &length));
     MEASURE("read_thresholds", ses_read_thresholds(shelf, c, page, length, &thresholds));
     MEASURE("rewrite_thresholds", ses_rewrite_thresholds(shelf, c, &thresholds, again, out, &length));
+    MEASURE("apply_control", ses_apply_control(shelf, n, control, sizeof control));
+    MEASURE("apply_thresholds", ses_apply_thresholds(shelf, n, limits, sizeof limits));
     if (failed)
         fprintf(stderr, "bench: a call was refused\n");
     return failed != 0;

@@ -118,17 +118,17 @@ module _ (s p : List ℕ) where
         (settings j l (e .0), ap (had (kindAt s j)) (thresholds-kept j) ∙ e .1, ap (ordered (kindAt s j)) (thresholds-kept j) ∙ e .2))
 
   -- what is stored already is put again
-  unmoved : ((j : ℕ) → j < n → settingsAfter s p j ≡ settingsAt s j) → after s p ≡ s
+  unmoved : (valid s p ≡ true → (j : ℕ) → j < n → settingsAfter s p j ≡ settingsAt s j) → after s p ≡ s
   unfolding withSettings settingsAt
-  unmoved h = rows-unmoved elementPlace 0 settings-place (omega arith) f s n (valid s p) (λ j l. brought-row j l ∙ h j l)
+  unmoved h = rows-unmoved elementPlace 0 settings-place (omega arith) f s n (valid s p) (λ v j l. brought-row j l ∙ h v j l)
 
   -- a page without any SELECT changes nothing
-  pub no-select : wellFormed s ≡ true → ((i : ℕ) → i < slotsOf s → selected (fourAt p (slotPlace i)) ≡ false) → after s p ≡ s
+  pub no-select : ((i : ℕ) → i < slotsOf s → selected (fourAt p (slotPlace i)) ≡ false) → after s p ≡ s
   unfolding settingsAfter placesOf
-  no-select w h =
+  no-select h =
       unmoved
-      (λ j l.
-      let e = front-formed s w in
+      (λ v j l.
+      let e = front-formed s (valid-formed s p v) in
       settled-none (kindAt s j) (fourAt p (slotPlace (overallSlot s j))) (fourAt p (slotPlace (ownSlot s j))) (settingsAt s j)
       (h (overallSlot s j) (overall-there s j l e))
       (h (ownSlot s j) (own-there s j l e)))
@@ -146,7 +146,7 @@ twice s p = by-case (valid s p) accepted-twice refused-twice
     accepted-twice : valid s p ≡ true → after (after s p) p ≡ after s p
     accepted-twice v =
         unmoved (after s p) p
-        (λ j m.
+        (λ w j m.
         let l : j < elementsOf s = rw (elements-alike s (after s p) (configuration-kept s p)) at m in
         let q = places-alike s (after s p) (configuration-kept s p) j l in
         let r = settings-reached s p v j l in

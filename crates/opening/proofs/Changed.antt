@@ -159,8 +159,8 @@ module _ (at : ℕ → ℕ) (o : ℕ) (place : (j : ℕ) → at j ≡ elementPla
           (λ e. element-kept j (ap (λ (x : List ℕ). fourAt x (at j)) (sym (pick-yes t (foursPut at f s n) s e)) ∙ h e) q l)
 
       -- nothing is put that does not stand already
-      pub rows-unmoved : ((j : ℕ) → j < n → fourAt (f j) 0 ≡ fourAt s (at j)) → after ≡ s
-      rows-unmoved h = either (λ (x : List ℕ). x ≡ s) refl (λ e. rows-same at f s n h)
+      pub rows-unmoved : (t ≡ true → (j : ℕ) → j < n → fourAt (f j) 0 ≡ fourAt s (at j)) → after ≡ s
+      rows-unmoved h = either (λ (x : List ℕ). x ≡ s) refl (λ e. rows-same at f s n (h e))
 
       -- a well-formed shelf stays so, if settings and thresholds are such as the types may have
       pub formed-same : wellFormed s ≡ true

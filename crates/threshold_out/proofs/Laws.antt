@@ -120,10 +120,10 @@ module _ (s p : List ℕ) where
         let t = thresholds j l in (ap (settingsFormed (kindAt s j)) (settings-kept j) ∙ in-element s w j l .0, t .0, t .1))
 
   -- a page of zeros changes nothing
-  pub no-thresholds : wellFormed s ≡ true → ((i : ℕ) → i < slotsOf s → Silent i) → after s p ≡ s
+  pub no-thresholds : ((i : ℕ) → i < slotsOf s → Silent i) → after s p ≡ s
   unfolding withThresholds thresholdsAt
-  no-thresholds w h =
+  no-thresholds h =
       rows-unmoved thresholdsPlace 4 thresholds-place (omega arith) f s n (valid s p)
-      (λ j l.
-      let e = front-formed s w in
+      (λ v j l.
+      let e = front-formed s (valid-formed s p v) in
       taken-row j l ∙ same j l (h (overallSlot s j) (overall-there s j l e)) (h (ownSlot s j) (own-there s j l e)))

@@ -1,18 +1,25 @@
-// Shows what a shelf block holds, writes its pages, or says why it is none: a built-in block, or one that is read from
-// a file.
+// Shows what a shelf block holds, writes its pages, applies a page to it, or says why it cannot: a built-in block, or
+// one that is read from a file. It writes no file.
 //
-// Every answer goes to standard output, a refusal too. What keeps a block from being read goes to standard error.
+// Every answer goes to standard output, a refusal too. What keeps a file from being read goes to standard error.
+mod answer;
+mod applying;
 mod builtin;
+mod files;
 mod page;
 
+use crate::applying::Act;
 use crate::page::Page;
 use libc::STDERR_FILENO;
-use refusals::Answer;
+
+// Which argument PAGE is, of a command that takes one.
+const PAGE_PLACE: u8 = 2;
 
 enum Command {
     Show,
     Check,
     Page(Page),
+    Apply(Act),
 }
 
 enum Given {
@@ -49,76 +56,78 @@ fn first_given() -> Given {
     if first_is(b"thresholds") {
         return Given::Command(Command::Page(Page::Thresholds));
     }
+    if first_is(b"apply-control") {
+        return Given::Command(Command::Apply(Act::Control));
+    }
+    if first_is(b"apply-thresholds") {
+        return Given::Command(Command::Apply(Act::Thresholds));
+    }
     Given::Unknown
 }
 
 // Whether the first argument is this word. One that is too long for the buffer reads as empty.
 fn first_is(word: &[u8]) -> bool {
-    let mut given = [0u8; 16];
+    let mut given = [0u8; 20];
     let n = os::arg(1, &mut given);
     check::same(&given[..n], word)
 }
 
 fn show_builtin() {
     let shelf = builtin::shelf();
-    tell(Command::Show, &shelf);
+    tell_contents(&shelf);
     page::tell_all(&shelf);
+    applying::show_full_speed();
 }
 
 fn run(command: Command) {
-    match os::arg_count() {
-        2 => without_file(command),
-        3 => on_named_file(command),
-        _ => say_wrong_number(),
+    let place = file_place(command);
+    let given = os::arg_count();
+    if given == place as usize {
+        without_file(command);
+    } else if given == place as usize + 1 {
+        on_named_file(command, place);
+    } else {
+        say_wrong_number();
+    }
+}
+
+// Which argument FILE is. The program is argument 0, its command argument 1.
+fn file_place(command: Command) -> u8 {
+    match command {
+        Command::Show | Command::Check | Command::Page(_) => 2,
+        Command::Apply(_) => PAGE_PLACE + 1,
     }
 }
 
 fn without_file(command: Command) {
     match command {
         Command::Show | Command::Check => say_wrong_number(),
-        Command::Page(page) => {
-            let shelf = builtin::shelf();
-            page::tell(page, &shelf);
+        Command::Page(_) | Command::Apply(_) => {
+            let mut shelf = builtin::shelf();
+            tell(command, &mut shelf);
         }
     }
 }
 
-fn on_named_file(command: Command) {
-    let mut path = io::buffer();
-    let n = os::arg(2, &mut path);
-    if os::errno() != 0 {
-        say_unreadable(b"FILE");
-        return;
-    }
-    let fd = os::open_read(&path[..n]);
-    if fd < 0 {
-        say_unreadable(&path[..n]);
-        return;
-    }
-    on_open_file(command, fd, &path[..n]);
-    libc::close(fd);
-}
-
-// `read_full` answers alike where the file ends and where a read fails: one more read tells the two apart.
-// The buffer is longer than any shelf, so a file that fills it is none, whatever follows.
-fn on_open_file(command: Command, fd: i32, path: &[u8]) {
+fn on_named_file(command: Command, place: u8) {
     let mut block = io::buffer();
-    let n = io::read_full(fd, &mut block);
-    let mut next = [0u8; 1];
-    if libc::read(fd, &mut next) < 0 {
-        say_unreadable(path);
+    let loaded = files::load(place, b"FILE", &mut block);
+    if !loaded.is_done {
+        say_usage();
         return;
     }
-    tell(command, &block[..n]);
+    let n = loaded.bytes;
+    tell(command, &mut block[..n]);
 }
 
-fn tell(command: Command, shelf: &[u8]) {
+fn tell(command: Command, shelf: &mut [u8]) {
     match command {
         Command::Show => tell_contents(shelf),
         Command::Check => {
             tell_checked(shelf);
         }
         Command::Page(page) => page::tell(page, shelf),
+        Command::Apply(act) => apply(act, shelf),
     }
 }
 
@@ -131,22 +140,18 @@ fn tell_contents(shelf: &[u8]) {
 // Answers whether the block is a shelf, after saying so.
 fn tell_checked(shelf: &[u8]) -> bool {
     let answer = ses::check(shelf);
-    match answer {
-        Answer::Accepted => {
-            say::text(b"shelf: well formed\n");
-            true
-        }
-        Answer::Refused(r) => {
-            say::refusal::tell(r);
-            false
-        }
-    }
+    answer::tell(answer, b"shelf: well formed\n")
 }
 
-// Just after the call that failed, whose errno it tells.
-fn say_unreadable(path: &[u8]) {
-    os::fail(path);
-    say_usage();
+fn apply(act: Act, shelf: &mut [u8]) {
+    let mut page = io::buffer();
+    let loaded = files::load(PAGE_PLACE, b"PAGE", &mut page);
+    if !loaded.is_done {
+        say_usage();
+        return;
+    }
+    let n = loaded.bytes;
+    applying::tell(act, shelf, &page[..n]);
 }
 
 fn say_wrong_number() {
@@ -161,6 +166,10 @@ fn say_wrong(what: &[u8]) {
 fn say_usage() {
     io::write_all(
         STDERR_FILENO,
-        b"usage: shelfctl [show FILE | check FILE | configuration [FILE] | status [FILE] | thresholds [FILE]]\n",
+        b"usage: shelfctl [show FILE | check FILE | configuration [FILE] | status [FILE] | thresholds [FILE] |\n",
+    );
+    io::write_all(
+        STDERR_FILENO,
+        b"                 apply-control PAGE [FILE] | apply-thresholds PAGE [FILE]]\n",
     );
 }

@@ -23,13 +23,17 @@ pub fn tell_all(shelf: &[u8]) {
     tell_headed(b"threshold page", Page::Thresholds, shelf);
 }
 
-fn tell_headed(name: &[u8], page: Page, shelf: &[u8]) {
+pub fn tell_headed(name: &[u8], page: Page, shelf: &[u8]) {
     let mut out = [0u8; MOST_BYTES];
     let written = write(page, shelf, &mut out);
-    say::text(name);
-    say::count(written.bytes() as u64, b" byte");
-    say::text(b"\n");
+    say_head(name, written.bytes());
     tell_written(written, &out);
+}
+
+pub fn say_head(name: &[u8], bytes: u32) {
+    say::text(name);
+    say::count(bytes as u64, b" byte");
+    say::text(b"\n");
 }
 
 fn write(page: Page, shelf: &[u8], out: &mut [u8]) -> Written {

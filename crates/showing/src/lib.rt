@@ -39,7 +39,7 @@ fn show_types(shelf: &[u8]) {
     }
 }
 
-fn show_type(shelf: &[u8], t: u16) {
+pub fn show_type(shelf: &[u8], t: u16) {
     let code = types::code_of(shelf, t);
     let length = types::text_length(shelf, t) as u16;
     say::labelled(b"type ", t as u64);

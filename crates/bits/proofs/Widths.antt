@@ -5,12 +5,7 @@ use Prim.Native.Nat.{ℕ, zero, suc, _+_, _*_, _/_, _%_, _^_, _<_}
 use native.Mathlib.Nat.{add-zero, zero-add, add-suc, suc-add, pow-suc}
 use native.Mathlib.Omega.{arith}
 use lib.ListN.{length, length-append}
-use Rattle.bits.specs.Numbers.{bigFrom, big, bytes}
-
--- each number of the list is a byte
-abbrev pub Bytes : List ℕ → Type 0
-Bytes [] = Unit {0}
-Bytes (b ∷ bs) = (b < 256) × Bytes bs
+use Rattle.bits.specs.Numbers.{bigFrom, big, bytes, Bytes}
 
 from-end : (n b : ℕ) (bs : List ℕ) → bigFrom n (bs ++ (b ∷ [])) ≡ bigFrom n bs * 256 + b
 from-end n b [] = refl

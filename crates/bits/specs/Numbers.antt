@@ -1,6 +1,6 @@
 -- Big-endian numbers of any width. Assumes nothing.
 use mathlib.Core.List.{List, [], _∷_, _++_}
-use Prim.Native.Nat.{ℕ, zero, suc, _+_, _*_, _/_, _%_}
+use Prim.Native.Nat.{ℕ, zero, suc, _+_, _*_, _/_, _%_, _<_}
 
 -- the number that bytes say after those that said n
 abbrev pub bigFrom : ℕ → List ℕ → ℕ
@@ -15,3 +15,8 @@ big bs = bigFrom 0 bs
 abbrev pub bytes : ℕ → ℕ → List ℕ
 bytes zero n = []
 bytes (suc w) n = bytes w (n / 256) ++ (n % 256 ∷ [])
+
+-- each number of the list is a byte
+abbrev pub Bytes : List ℕ → Type 0
+Bytes [] = Unit {0}
+Bytes (b ∷ bs) = (b < 256) × Bytes bs

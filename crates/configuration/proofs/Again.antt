@@ -9,12 +9,12 @@ use lib.Dec.{eqb, leb, ltb}
 use lib.ListN.{length, getD}
 use borrow.Author.Tests.{leb-true, le-leb, lt-ltb, le-ltb, ltb-true, ltb-false, eq-eqb, eqb-true}
 use Rattle.bits.specs.Choice.{sumBelow}
-use Rattle.bits.specs.Numbers.{big, bytes}
+use Rattle.bits.specs.Numbers.{big, bytes, Bytes}
 use Rattle.bits.specs.Places.{twoAt, fourAt}
 use Rattle.bits.specs.Rows.{joined, bytesAt}
 use Rattle.bits.proofs.Logic.{and-both, pick-yes, pick-no, below-all}
 use Rattle.bits.proofs.Rows.{joined-same}
-use Rattle.bits.proofs.Widths.{Bytes, bytes-big}
+use Rattle.bits.proofs.Widths.{bytes-big}
 use Rattle.kinds.specs.Types.{served}
 use Rattle.refusals.specs.declared.Answer.the-variants.{Accepted}
 use Rattle.shelf.specs.Limits.{mostTypes, mostElements, mostInType, mostText, typeSize, typePlace, textPlace, elementPlace}

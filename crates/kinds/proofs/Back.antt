@@ -96,7 +96,7 @@ module _ (a b c d : ℕ) (ha : a < 256) (hb : b < 256) (hd : d < 256) (f : only 
       → sensorBytes (sensorSettings (a ∷ b ∷ c ∷ d ∷ [])) ≡ a ∷ b ∷ c ∷ d ∷ []
   sensor-again y z w = four (first-again a ha f) (ident-fail-again b hb y) (sym (eqb-true c 0 z)) (sym (eqb-true d 0 w))
 
-  kind-again : (k : Kind) → secondNamed k b ≡ true → eqb c 0 ≡ true → fourthNamed k d ≡ true
+  pub kind-again : (k : Kind) → secondNamed k b ≡ true → eqb c 0 ≡ true → fourthNamed k d ≡ true
       → settingsBytes k (settingsOf k (a ∷ b ∷ c ∷ d ∷ [])) ≡ a ∷ b ∷ c ∷ d ∷ []
   unfolding settingsBytes settingsOf secondNamed fourthNamed
   kind-again Cooling y z w = fan-again y z w
@@ -163,28 +163,28 @@ speed-only f o n =
     let h = flags-high false f o false (n % 8) in
     let l = join-low (nibble false f o false) (n % 8) in rw (h .0, h .3, l .0, low-three n)
 
-first-clear : (k : Kind) (s : Settings) → only (6 ∷ 5 ∷ 4 ∷ []) (getD (settingsBytes k s) 0 0) ≡ true
+pub first-clear : (k : Kind) (s : Settings) → only (6 ∷ 5 ∷ 4 ∷ []) (getD (settingsBytes k s) 0 0) ≡ true
 unfolding settingsBytes
 first-clear Cooling s = first-only (s .prdfail) (s .disabled) (s .swap)
 first-clear Temperature s = first-only (s .prdfail) (s .disabled) (s .swap)
 first-clear Voltage s = first-only (s .prdfail) (s .disabled) (s .swap)
 first-clear Current s = first-only (s .prdfail) (s .disabled) (s .swap)
 
-second-named : (k : Kind) (s : Settings) → secondNamed k (getD (settingsBytes k s) 1 0) ≡ true
+pub second-named : (k : Kind) (s : Settings) → secondNamed k (getD (settingsBytes k s) 1 0) ≡ true
 unfolding settingsBytes secondNamed
 second-named Cooling s = ident-only (s .ident)
 second-named Temperature s = ident-fail-only (s .ident) (s .fail)
 second-named Voltage s = ident-fail-only (s .ident) (s .fail)
 second-named Current s = ident-fail-only (s .ident) (s .fail)
 
-third-none : (k : Kind) (s : Settings) → eqb (getD (settingsBytes k s) 2 0) 0 ≡ true
+pub third-none : (k : Kind) (s : Settings) → eqb (getD (settingsBytes k s) 2 0) 0 ≡ true
 unfolding settingsBytes
 third-none Cooling s = refl
 third-none Temperature s = refl
 third-none Voltage s = refl
 third-none Current s = refl
 
-fourth-named : (k : Kind) (s : Settings) → fourthNamed k (getD (settingsBytes k s) 3 0) ≡ true
+pub fourth-named : (k : Kind) (s : Settings) → fourthNamed k (getD (settingsBytes k s) 3 0) ≡ true
 unfolding settingsBytes fourthNamed
 fourth-named Cooling s = speed-only (s .fail) (s .on) (s .speed)
 fourth-named Temperature s = refl

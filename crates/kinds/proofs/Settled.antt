@@ -1,11 +1,12 @@
 -- What the control element that acts on an element makes of its stored settings. Assumes nothing.
-use mathlib.Core.Path.{_≡_, refl, ap, _∙_}
+use mathlib.Core.Path.{_≡_, refl, sym, ap, _∙_}
 use mathlib.Core.Bool.{Bool, true, false, not, _&&_}
 use mathlib.Core.List.{List}
 use Prim.Native.Nat.{ℕ}
 use lib.Dec.{eqb}
 use lib.ListN.{length}
 use Rattle.bits.specs.Choice.{pick}
+use Rattle.bits.proofs.Logic.{and-left}
 use Rattle.kinds.specs.declared.types.Kind.{Kind}
 use Rattle.kinds.specs.declared.types.Kind.the-variants.{Cooling, Temperature, Voltage, Current}
 use Rattle.kinds.specs.declared.settings.Settings.{Settings}
@@ -40,7 +41,7 @@ acted-twice c s =
       speed = v i;
     }
 
-length-bytes : (k : Kind) (s : Settings) → length (settingsBytes k s) ≡ 4
+pub length-bytes : (k : Kind) (s : Settings) → length (settingsBytes k s) ≡ 4
 unfolding settingsBytes
 length-bytes Cooling s = refl
 length-bytes Temperature s = refl
@@ -93,3 +94,15 @@ module _ (k : Kind) where
     pub settled-none : selected overall ≡ false → selected own ≡ false → settled k (chosen (controlOf k overall) (controlOf k own)) e ≡ e
     unfolding settled chosen controlOf
     settled-none p q = rw (p, q)
+
+    -- no control element sets a SWAP
+    pub swap-kept : settingsOf k (settled k (chosen (controlOf k overall) (controlOf k own)) e) .swap ≡ true → settingsOf k e .swap ≡ true
+    unfolding settled
+    swap-kept =
+        by-chosen (λ (c : Control). settingsOf k (settled k c e) .swap ≡ true → settingsOf k e .swap ≡ true) (λ h. h)
+        (λ r l h.
+        let s = settingsOf k e in
+        let b = settings-back k (acted (asking r) s) (asked-storable k r s l (settings-storable k e)) in
+        and-left (s .swap) (not (r .swap)) (sym (ap (λ (x : Settings). x .swap) b) ∙ h))
+        overall
+        own

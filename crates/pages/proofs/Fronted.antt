@@ -38,14 +38,14 @@ module _ (s : List ℕ) where
   unfolding header
   header-same code own n = rw (front-get s 0 (omega arith), front-get s 1 (omega arith), front-get s 2 (omega arith), front-get s 3 (omega arith))
 
-  before-up : (t n : ℕ) → before s t ≤ before s (t + n)
+  pub before-up : (t n : ℕ) → before s t ≤ before s (t + n)
   before-up t zero = rw add-zero (omega arith)
   before-up t (suc n) =
       let e : t + suc n ≡ t + n + 1 = omega arith in
       rw e (omega (arith, before-up t n, before-next s (t + n)))
 
   -- an element stands in the type that it starts after and ends before
-  typed : (t j : ℕ) → t < mostTypes → before s t ≤ j → j < before s (t + 1) → typeOf s j ≡ t
+  pub typed : (t j : ℕ) → t < mostTypes → before s t ≤ j → j < before s (t + 1) → typeOf s j ≡ t
   unfolding typeOf
   typed t j l a b =
       first-at (within s j) mostTypes t l

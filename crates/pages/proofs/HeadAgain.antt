@@ -7,10 +7,10 @@ use native.Mathlib.Omega.{arith}
 use lib.Dec.{eqb, leb}
 use lib.ListN.{length, getD, take}
 use borrow.Author.Tests.{eqb-true, le-leb, eq-eqb}
-use Rattle.bits.specs.Numbers.{big, bytes}
+use Rattle.bits.specs.Numbers.{big, bytes, Bytes}
 use Rattle.bits.specs.Places.{twoAt, fourAt}
 use Rattle.bits.specs.Rows.{joined}
-use Rattle.bits.proofs.Widths.{Bytes, big-bytes, bytes-big}
+use Rattle.bits.proofs.Widths.{big-bytes, bytes-big}
 use Rattle.bits.proofs.Rows.{take-four}
 use Rattle.refusals.specs.declared.Refusal.the-variants.{PageTooShort, PageCode, PageLength, Generation}
 use Rattle.refusals.specs.declared.Answer.{Answer}

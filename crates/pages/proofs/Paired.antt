@@ -38,13 +38,13 @@ places-alike s x e j l =
 
 -- a slot stands in the type that it starts after and ends before
 module _ (s : List ℕ) where
-  start-up : (t n : ℕ) → startOf s t ≤ startOf s (t + n)
+  pub start-up : (t n : ℕ) → startOf s t ≤ startOf s (t + n)
   start-up t zero = rw add-zero (omega arith)
   start-up t (suc n) =
       let e : t + suc n ≡ t + n + 1 = omega arith in
       rw e (omega (arith, start-up t n, start-next s (t + n)))
 
-  slotted : (t i : ℕ) → t < mostTypes → startOf s t ≤ i → i < startOf s (t + 1) → slotType s i ≡ t
+  pub slotted : (t i : ℕ) → t < mostTypes → startOf s t ≤ i → i < startOf s (t + 1) → slotType s i ≡ t
   unfolding slotType
   slotted t i l a b =
       first-at (inType s i) mostTypes t l

@@ -11,7 +11,7 @@ use Rattle.bits.specs.Bits.{only, nibble, bit}
 use Rattle.bits.specs.Places.{fourAt}
 use Rattle.bits.proofs.Logic.{by-case, pick-yes, pick-no, below-all, fails, four-pass}
 use Rattle.bits.proofs.Halves.{nibble-bits}
-use Rattle.bits.proofs.Widths.{Bytes}
+use Rattle.bits.specs.Numbers.{Bytes}
 use Rattle.bits.proofs.Rows.{joined-same}
 use Rattle.kinds.specs.declared.types.Kind.{Kind}
 use Rattle.kinds.specs.Types.{readingAllowed}

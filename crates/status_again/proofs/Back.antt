@@ -14,7 +14,7 @@ use Rattle.bits.specs.Places.{fourAt}
 use Rattle.bits.proofs.Offence.{row-fine}
 use Rattle.bits.proofs.Logic.{pick-yes, pick-no, and-both, below-all, by-case, all-four, first-small}
 use Rattle.bits.proofs.Halves.{again-byte}
-use Rattle.bits.proofs.Widths.{Bytes}
+use Rattle.bits.specs.Numbers.{Bytes}
 use Rattle.bits.proofs.Rows.{joined-same, fours}
 use Rattle.kinds.specs.declared.types.Kind.{Kind}
 use Rattle.kinds.specs.declared.types.Kind.the-variants.{Cooling, Temperature, Voltage, Current}

@@ -9,7 +9,8 @@ use lib.ListN.{length, getD, drop, take-append-drop, length-drop}
 use lib.Seq.{getD-append-add, take-all}
 use borrow.Author.Tests.{eqb-true, eq-eqb}
 use Rattle.bits.specs.Rows.{oneAt, bytesAt}
-use Rattle.bits.proofs.Widths.{Bytes, big-bytes}
+use Rattle.bits.specs.Numbers.{Bytes}
+use Rattle.bits.proofs.Widths.{big-bytes}
 use Rattle.bits.proofs.Rows.{joined-same, bytes-there, bytes-get}
 use Rattle.refusals.specs.declared.Refusal.the-variants.{ShelfNotWellFormed, NotAllowed}
 use Rattle.refusals.specs.declared.Answer.{Answer}

@@ -1,0 +1,132 @@
+-- The page that is made is valid and reaches the wish; where a SWAP is wanted that is not stored, none does. Assumes nothing.
+use mathlib.Core.Path.{_≡_, refl, sym, ap, _∙_}
+use mathlib.Core.Bool.{Bool, true, false}
+use mathlib.Core.List.{List}
+use Prim.Native.Nat.{ℕ, _+_, _*_, _-_, _<_}
+use native.Mathlib.Omega.{arith}
+use lib.ListN.{length, take}
+use lib.Seq.{take-length}
+use borrow.Author.Tests.{le-ltb}
+use Rattle.bits.specs.Choice.{pick}
+use Rattle.bits.specs.Numbers.{Bytes}
+use Rattle.bits.specs.Places.{fourAt}
+use Rattle.bits.proofs.Logic.{never}
+use Rattle.bits.proofs.Rows.{joined-same, fours}
+use Rattle.kinds.specs.Settings.{settingsOf, settingsFormed}
+use Rattle.kinds.specs.Control.{offending}
+use Rattle.kinds.proofs.Settled.{swap-kept}
+use Rattle.refusals.specs.declared.Answer.the-variants.{Accepted}
+use Rattle.wishes.specs.Wishes.{one}
+use Rattle.wishes.specs.Parts.{bestOf, overallFor}
+use Rattle.wishes.proofs.Told.{through-length}
+use Rattle.wishes.proofs.Ahead.{one-row, one-reaches}
+use Rattle.wishes.proofs.Part.{best-row}
+use Rattle.shelf.specs.Types.{typesOf, typeCount, before, elementsOf, typeOf, kindAt}
+use Rattle.shelf.specs.Elements.{settingsAt}
+use Rattle.shelf.proofs.Counts.{before-next}
+use Rattle.opening.specs.Formed.{frontFormed, wellFormed}
+use Rattle.opening.proofs.Typed.{type-start, type-end, type-named, front-formed}
+use Rattle.pages.specs.Slots.{slotsOf, slotType, slotAt, slotPlace}
+use Rattle.pages.specs.Places.{ownSlot, overallSlot, placesOf}
+use Rattle.pages.specs.Header.{pageAsked, header}
+use Rattle.pages.proofs.Bounds.{slots-bound}
+use Rattle.pages.proofs.Paired.{own-there, overall-there}
+use Rattle.pages.proofs.HeadAgain.{head-written}
+use Rattle.control.specs.Asked.{slotOffending, valid}
+use Rattle.control.specs.Brought.{settingsAfter, broughtTo, settingsIn}
+use Rattle.control.proofs.Valid.{firstFine, parts-valid}
+use Rattle.builder.specs.Page.{typeKind, storedIn, wantedIn, overallIn, rowFor, controlPage}
+use Rattle.builder.proofs.Typewise.{overall-row, element-row, own-slot, overall-slot, element-kind-at}
+use Rattle.builder.proofs.First.{four-small, rowFor-length, brought}
+use Rattle.builder.proofs.Ahead.{made-row}
+
+-- each slot of the page is a control element of its type
+row-fine : (s w : List ℕ) (i : ℕ) → offending (slotAt s i .kind) (rowFor s w i) ≡ 4
+unfolding rowFor overallIn overallFor slotAt
+row-fine s w i =
+    let t = slotType s i in
+    let at = slotAt s i in
+    let o = bestOf (typeKind s t) (storedIn s t) (wantedIn s w t) (typeCount s t) (4 * typeCount s t) in
+    go (at .overall) o (one (typeKind s t) o (settingsAt s (at .first)) (settingsIn w (at .first)))
+    (best-row (typeKind s t) (storedIn s t) (wantedIn s w t) (typeCount s t) (4 * typeCount s t) .2)
+    (one-row (typeKind s t) (settingsAt s (at .first)) (settingsIn w (at .first)) o .2)
+  where
+    go : (b : Bool) (x y : List ℕ) → offending (typeKind s (slotType s i)) x ≡ 4 → offending (typeKind s (slotType s i)) y ≡ 4
+        → offending (typeKind s (slotType s i)) (pick b x y) ≡ 4
+    go true x y h l = h
+    go false x y h l = l
+
+stored-length : (s : List ℕ) (j : ℕ) → length (settingsAt s j) ≡ 4
+unfolding settingsAt
+stored-length s j = refl
+
+module _ (s w : List ℕ) (f : wellFormed s ≡ true) where
+  ff : frontFormed s ≡ true
+  ff = front-formed s f
+
+  headed-made : pageAsked s (controlPage s w) 0x02 ≡ Accepted
+  unfolding pageAsked controlPage
+  headed-made = rw f (head-written (rowFor s w) (rowFor-length s w) s 0x02 0 (slotsOf s) (omega (arith, slots-bound s ff)))
+
+  first : firstFine (controlPage s w) ≡ true
+  unfolding controlPage header
+  first = refl
+
+  pub made-valid : valid s (controlPage s w) ≡ true
+  unfolding slotOffending
+  made-valid =
+      parts-valid s (controlPage s w) headed-made first
+      (λ i l.
+      let e = ap (offending (slotAt s i .kind)) (made-row s w i l) ∙ row-fine s w i in
+      le-ltb (offending (slotAt s i .kind) (fourAt (controlPage s w) (slotPlace i))) 4 (omega (arith, e)))
+
+  -- a wish that can be reached: settings that the types may have, and no SWAP over a stored 0
+  abbrev pub Can : ℕ → Type 0
+  Can j = (settingsFormed (kindAt s j) (settingsIn w j) ≡ true)
+      × (settingsOf (kindAt s j) (settingsIn w j) .swap ≡ true → settingsOf (kindAt s j) (settingsAt s j) .swap ≡ true)
+
+  module _ (hw : Bytes w) where
+    -- element i of type t
+    module _ (t : ℕ) (l : t < typesOf s) (i : ℕ) (m : i < typeCount s t) (c : Can (before s t + i)) (there : before s t + i < elementsOf s) where
+      reached-in : settingsAfter s (controlPage s w) (before s t + i) ≡ wantedIn s w t i
+      unfolding settingsAfter placesOf
+      reached-in =
+          let j = before s t + i in
+          let k = typeKind s t in
+          let o = overallIn s w t in
+          let g : settingsFormed k (settingsIn w j) ≡ true = rw (element-kind-at s ff t l i m) at (c .0) in
+          let z : settingsOf k (settingsIn w j) .swap ≡ true → settingsOf k (settingsAt s j) .swap ≡ true = rw (element-kind-at s ff t l i m) at (c .1) in
+          let own : fourAt (controlPage s w) (slotPlace (ownSlot s j)) ≡ one k o (storedIn s t i) (wantedIn s w t i) =
+          made-row s w (ownSlot s j) (own-there s j there ff) ∙ ap (rowFor s w) (own-slot s ff t l i m) ∙ element-row s ff t l i m w in
+          let all : fourAt (controlPage s w) (slotPlace (overallSlot s j)) ≡ o =
+          made-row s w (overallSlot s j) (overall-there s j there ff) ∙ ap (rowFor s w) (overall-slot s ff t l i m) ∙ overall-row s ff t l w in
+          rw (own, all, element-kind-at s ff t l i m)
+          (one-reaches k (storedIn s t i) (wantedIn s w t i) o (refl, four-small w hw (4 * j), g, z) (through-length k o (storedIn s t i) (stored-length s j)))
+
+    module _ (can : (j : ℕ) → j < elementsOf s → Can j) where
+      reached-at : (j : ℕ) → j < elementsOf s → settingsAfter s (controlPage s w) j ≡ settingsIn w j
+      reached-at j l =
+          let t = typeOf s j in
+          let a = type-start s j l in
+          let i = j - before s t in
+          let e : before s t + i ≡ j = omega (arith, a) in
+          let m : i < typeCount s t = omega (arith, a, type-end s j l, before-next s t) in
+          let h = reached-in t (type-named s j ff l) i m (can (before s t + i) (rw e l)) (rw e l) in
+          rw e at h
+
+      pub made-brings : length w ≡ 4 * elementsOf s → broughtTo s (controlPage s w) ≡ w
+      unfolding broughtTo
+      made-brings e =
+          joined-same (settingsAfter s (controlPage s w)) (settingsIn w) (elementsOf s) reached-at
+          ∙ joined-same (settingsIn w) (λ i. fourAt w (0 + 4 * i)) (elementsOf s) (λ i l. ap (fourAt w) (let z : 4 * i ≡ 0 + 4 * i = omega arith in z))
+          ∙ sym (fours w 0 (elementsOf s) (omega arith))
+          ∙ ap (λ (x : ℕ). take x w) (let z : 0 + 4 * elementsOf s ≡ length w = omega arith in z)
+          ∙ take-length w
+
+-- no control element sets a SWAP, so a wish for one that is not stored is reached by no page
+pub out-of-reach : (s w : List ℕ) (j : ℕ) → j < elementsOf s → settingsOf (kindAt s j) (settingsIn w j) .swap ≡ true → settingsOf (kindAt s j) (settingsAt s j) .swap ≡ false
+    → (q : List ℕ) → broughtTo s q ≡ w → ⊥
+unfolding settingsAfter placesOf
+out-of-reach s w j l a b q e =
+    let h = brought s w q e j l in
+    never (sym (swap-kept (kindAt s j) (fourAt q (slotPlace (overallSlot s j))) (fourAt q (slotPlace (ownSlot s j))) (settingsAt s j) (ap (λ (x : List ℕ). settingsOf (kindAt s j) x .swap) h ∙ a)) ∙ b)

@@ -1,0 +1,39 @@
+-- The control page for a wish: how it is made. Assumes nothing.
+use mathlib.Core.List.{List, _++_}
+use Prim.Native.Nat.{ℕ, _+_}
+use Rattle.bits.specs.Choice.{pick}
+use Rattle.bits.specs.Rows.{joined}
+use Rattle.kinds.specs.declared.types.Kind.{Kind}
+use Rattle.kinds.specs.Types.{kindOf}
+use Rattle.wishes.specs.Wishes.{one}
+use Rattle.wishes.specs.Parts.{overallFor}
+use Rattle.shelf.specs.Types.{typeCode, typeCount, before}
+use Rattle.shelf.specs.Elements.{settingsAt}
+use Rattle.pages.specs.declared.slots.Slot.{Slot}
+use Rattle.pages.specs.Slots.{slotsOf, slotType, slotAt}
+use Rattle.pages.specs.Header.{header}
+use Rattle.control.specs.Brought.{settingsIn}
+
+-- of type t: its kind, and what is stored and wanted of its element i
+abbrev pub typeKind : List ℕ → ℕ → Kind
+typeKind s t = kindOf (typeCode s t)
+
+abbrev pub storedIn : List ℕ → ℕ → ℕ → List ℕ
+storedIn s t i = settingsAt s (before s t + i)
+
+abbrev pub wantedIn : List ℕ → List ℕ → ℕ → ℕ → List ℕ
+wantedIn s w t i = settingsIn w (before s t + i)
+
+-- its overall element
+unfoldable pub overallIn : List ℕ → List ℕ → ℕ → List ℕ
+overallIn s w t = overallFor (typeKind s t) (storedIn s t) (wantedIn s w t) (typeCount s t)
+
+-- the four bytes of slot i
+unfoldable pub rowFor : List ℕ → List ℕ → ℕ → List ℕ
+rowFor s w i =
+    let at : Slot = slotAt s i in
+    let o : List ℕ = overallIn s w (slotType s i) in
+    pick (at .overall) o (one (at .kind) o (settingsAt s (at .first)) (settingsIn w (at .first)))
+
+unfoldable pub controlPage : List ℕ → List ℕ → List ℕ
+controlPage s w = header s 0x02 0 (slotsOf s) ++ joined (rowFor s w) (slotsOf s)

@@ -1,0 +1,5 @@
+pub mod Asked
+pub mod Asking
+pub mod Told
+pub mod Ahead
+pub mod Part

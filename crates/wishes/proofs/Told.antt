@@ -1,0 +1,104 @@
+-- What the element that asks for given settings says: it is selected, has no reserved bit, and asks for them. Assumes nothing.
+use mathlib.Core.Path.{_≡_, refl, sym, ap, _∙_}
+use mathlib.Core.Bool.{true}
+use mathlib.Core.List.{List, [], _∷_}
+use Prim.Native.Nat.{ℕ, zero, suc, _+_, _-_, _<_}
+use native.Mathlib.Omega.{arith}
+use lib.Dec.{ltb}
+use lib.ListN.{length, getD}
+use borrow.Author.Tests.{lt-ltb}
+use Rattle.bits.specs.Bits.{bit, only}
+use Rattle.bits.proofs.Logic.{pick-yes, and-both, four-pass, byByteIf}
+use Rattle.bits.proofs.Rows.{as-four}
+use Rattle.kinds.specs.declared.types.Kind.{Kind}
+use Rattle.kinds.specs.declared.types.Kind.the-variants.{Cooling, Temperature, Voltage, Current}
+use Rattle.kinds.specs.declared.settings.Settings.{Settings}
+use Rattle.kinds.specs.Settings.{fanBytes, sensorBytes, settingsOf, settingsBytes}
+use Rattle.kinds.specs.Control.{selected, unselected, asking, controlOf, offending}
+use Rattle.kinds.proofs.Back.{Storable, settings-back, first-clear, second-named, third-none, fourth-named}
+use Rattle.kinds.proofs.Settled.{length-bytes, settled-length}
+use Rattle.wishes.specs.Wishes.{silent, askBytes, through}
+use Rattle.wishes.proofs.Asked.{first-small}
+use Rattle.wishes.proofs.Asking.{heading, rest-same}
+
+head-only : (x : ℕ) → x < 256 → only (6 ∷ 5 ∷ 4 ∷ []) x ≡ true → only (7 ∷ 6 ∷ 5 ∷ 4 ∷ []) (128 + x) ≡ true
+head-only = byByteIf (only (6 ∷ 5 ∷ 4 ∷ [])) (λ x. only (7 ∷ 6 ∷ 5 ∷ 4 ∷ []) (128 + x)) refl
+
+head-selects : (x : ℕ) → x < 128 → bit 7 (128 + x) ≡ true
+head-selects x h = byByteIf (λ b. ltb b 128) (λ b. bit 7 (128 + b)) refl x (omega arith) (lt-ltb x 128 h)
+
+fan-small : (s : Settings) (i : ℕ) → getD (fanBytes s) i 0 < 256
+fan-small s zero = omega arith
+fan-small s (suc zero) = omega arith
+fan-small s (suc (suc zero)) = omega arith
+fan-small s (suc (suc (suc zero))) = omega arith
+fan-small s (suc (suc (suc (suc i)))) = omega arith
+
+sensor-small : (s : Settings) (i : ℕ) → getD (sensorBytes s) i 0 < 256
+sensor-small s zero = omega arith
+sensor-small s (suc zero) = omega arith
+sensor-small s (suc (suc zero)) = omega arith
+sensor-small s (suc (suc (suc zero))) = omega arith
+sensor-small s (suc (suc (suc (suc i)))) = omega arith
+
+stored-small : (k : Kind) (s : Settings) (i : ℕ) → getD (settingsBytes k s) i 0 < 256
+unfolding settingsBytes
+stored-small Cooling s i = fan-small s i
+stored-small Temperature s i = sensor-small s i
+stored-small Voltage s i = sensor-small s i
+stored-small Current s i = sensor-small s i
+
+module _ (k : Kind) (r : Settings) where
+  head-only-at : only (7 ∷ 6 ∷ 5 ∷ 4 ∷ []) (128 + getD (settingsBytes k r) 0 0) ≡ true
+  head-only-at = head-only (getD (settingsBytes k r) 0 0) (omega (arith, first-small k r)) (first-clear k r)
+
+  pub ask-selected : selected (askBytes k r) ≡ true
+  unfolding askBytes
+  ask-selected = head-selects (getD (settingsBytes k r) 0 0) (first-small k r)
+
+  pub ask-fine : offending k (askBytes k r) ≡ 4
+  unfolding offending askBytes
+  ask-fine =
+      pick-yes (bit 7 (128 + getD (settingsBytes k r) 0 0)) _ 4 (head-selects (getD (settingsBytes k r) 0 0) (first-small k r))
+      ∙ four-pass head-only-at (second-named k r) (third-none k r) (fourth-named k r)
+
+  pub ask-length : length (askBytes k r) ≡ 4
+  unfolding askBytes
+  ask-length = refl
+
+  pub ask-small : (i : ℕ) → getD (askBytes k r) i 0 < 256
+  unfolding askBytes
+  ask-small zero = omega (arith, first-small k r)
+  ask-small (suc zero) = stored-small k r 1
+  ask-small (suc (suc zero)) = stored-small k r 2
+  ask-small (suc (suc (suc zero))) = stored-small k r 3
+  ask-small (suc (suc (suc (suc i)))) = omega arith
+
+  pub ask-back : Storable k r → settingsOf k (askBytes k r) ≡ r
+  unfolding askBytes
+  ask-back h =
+      let e = settingsBytes k r in
+      let x = getD e 0 0 in
+      let g : heading (128 + x) ≡ true = and-both (head-selects x (first-small k r)) head-only-at in
+      let m : 128 + x - 128 ≡ x = omega arith in
+      rest-same k (128 + x) (getD e 1 0) (getD e 2 0) (getD e 3 0) (omega (arith, first-small k r)) g
+      ∙ ap (λ (y : ℕ). settingsOf k (y ∷ getD e 1 0 ∷ getD e 2 0 ∷ getD e 3 0 ∷ [])) m
+      ∙ ap (settingsOf k) (sym (as-four e (length-bytes k r)))
+      ∙ settings-back k r h
+
+  pub ask-control : Storable k r → controlOf k (askBytes k r) ≡ asking r
+  unfolding controlOf
+  ask-control h = pick-yes (selected (askBytes k r)) _ unselected ask-selected ∙ ap asking (ask-back h)
+
+-- four zeros are not selected
+pub silent-control : (k : Kind) → controlOf k silent ≡ unselected
+unfolding controlOf
+silent-control k = refl
+
+pub silent-fine : (k : Kind) → offending k silent ≡ 4
+unfolding offending
+silent-fine k = refl
+
+pub through-length : (k : Kind) (o e : List ℕ) → length e ≡ 4 → length (through k o e) ≡ 4
+unfolding through
+through-length k o e h = settled-length k (controlOf k o) e h

@@ -1,0 +1,23 @@
+-- `wishes::own` meets its contract. Assumes nothing.
+use Rattle.wishes.proofs.Asked.{own-is}
+use borrow.Author.Needs.{needs}
+use Rattle.wishes.proofs.own.Statement.{statement}
+use Rattle.wishes.proofs.own.Tie as tie
+
+of-requires : tie.Need-of-requires
+of-requires c κs = search needs
+
+of-requires-2 : tie.Need-of-requires-2
+of-requires-2 c κs = search needs
+
+turning-requires : tie.Need-turning-requires
+turning-requires c κs = search needs
+
+ask-requires : tie.Need-ask-requires
+ask-requires c κs = search needs
+
+returns : tie.Need-returns
+returns c = let s = c .before .before .before .before .before .before .args in own-is (s .kind) (s .stored) (s .wanted) (c .before .before .before .before .before .of .ensures) (c .before .before .before .before .of2 .ensures) (c .before .before .before .turning .ensures) (c .ask .ensures)
+
+pub own-spec : {M : Type 1} → statement M
+own-spec = tie.close (tie.spec of-requires of-requires-2 turning-requires ask-requires returns)

@@ -13,6 +13,7 @@ use Rattle.bits.specs.Rows.{joined}
 use Rattle.bits.proofs.Rows.{fours}
 use Rattle.order.specs.Order.{InOrder, NotAfter}
 use Rattle.order.proofs.Dictionary.{order-refl, order-append}
+use Rattle.order.proofs.Counted.{sum-same}
 use Rattle.refusals.specs.declared.Answer.the-variants.{Accepted}
 use Rattle.refusals.proofs.Passed.{held-both}
 use Rattle.wishes.specs.Parts.{selects}
@@ -26,7 +27,7 @@ use Rattle.control.proofs.Valid.{valid-formed, valid-headed}
 use Rattle.builder.specs.Promise.{selectsOn, Reaching}
 use Rattle.builder.specs.Page.{rowFor, controlPage}
 use Rattle.builder.proofs.Typewise.{slots-end}
-use Rattle.builder.proofs.First.{sum-same, rowFor-length, upto}
+use Rattle.builder.proofs.First.{rowFor-length, upto}
 
 -- what the page that is made has in slot i
 pub made-row : (s w : List ℕ) (i : ℕ) → i < slotsOf s → fourAt (controlPage s w) (slotPlace i) ≡ rowFor s w i

@@ -9,6 +9,7 @@ use Rattle.bits.specs.Choice.{pick}
 use Rattle.bits.specs.Numbers.{Bytes}
 use Rattle.bits.specs.Rows.{joined}
 use Rattle.order.proofs.Counted.{after-same}
+use Rattle.kinds.specs.Control.{controlOf}
 use Rattle.wishes.specs.Wishes.{one}
 use Rattle.wishes.specs.Parts.{bestOf, overallFor}
 use Rattle.wishes.proofs.Ahead.{one-row}
@@ -42,10 +43,10 @@ unfolding rowFor overallIn overallFor
 row-bytes s w i =
     let t = slotType s i in
     let at = slotAt s i in
-    let o = bestOf (typeKind s t) (storedIn s t) (wantedIn s w t) (typeCount s t) (4 * typeCount s t) in
-    let x = one (at .kind) o (settingsAt s (at .first)) (settingsIn w (at .first)) in
-    go (at .overall) o x (bytes-of o (best-row (typeKind s t) (storedIn s t) (wantedIn s w t) (typeCount s t) (4 * typeCount s t) .1))
-    (bytes-of x (one-row (at .kind) (settingsAt s (at .first)) (settingsIn w (at .first)) o .1))
+    let o = bestOf (typeKind s t) (storedIn s t) (wantedIn s w t) (typeCount s t) (typeCount s t) in
+    let x = one (at .kind) (controlOf (at .kind) o) (settingsAt s (at .first)) (settingsIn w (at .first)) in
+    go (at .overall) o x (bytes-of o (best-row (typeKind s t) (storedIn s t) (wantedIn s w t) (typeCount s t) (typeCount s t) .1))
+    (bytes-of x (one-row (at .kind) (settingsAt s (at .first)) (settingsIn w (at .first)) (controlOf (at .kind) o) .1))
   where
     go : (b : Bool) (x y : List ℕ) → Bytes x → Bytes y → Bytes (pick b x y)
     go true x y h l = h

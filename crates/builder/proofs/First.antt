@@ -15,7 +15,7 @@ use Rattle.bits.specs.Rows.{joined}
 use Rattle.bits.proofs.Logic.{first-small}
 use Rattle.bits.proofs.Rows.{joined-four, joined-same, length-joined}
 use Rattle.order.specs.Order.{NotAfter}
-use Rattle.order.proofs.Counted.{after-refl, after-append, joined-split, sum-split}
+use Rattle.order.proofs.Counted.{after-refl, after-append, joined-split, sum-same, sum-split}
 use Rattle.kinds.specs.declared.types.Kind.{Kind}
 use Rattle.kinds.specs.Control.{selected, offending, controlOf, chosen, settled}
 use Rattle.wishes.specs.Wishes.{one}
@@ -41,10 +41,6 @@ use Rattle.builder.proofs.Typewise.{slots-end, overall-row, overall-kin
 sum-one : (f : ℕ → ℕ) → sumBelow f 1 ≡ f 0
 sum-one f = omega arith
 
-pub sum-same : (f g : ℕ → ℕ) (n : ℕ) → ((i : ℕ) → i < n → f i ≡ g i) → sumBelow f n ≡ sumBelow g n
-sum-same f g zero h = refl
-sum-same f g (suc n) h = ap₂ _+_ (sum-same f g n (λ i l. h i (omega arith))) (h n (omega arith))
-
 four-or-less : (k : Kind) (c : List ℕ) → offending k c ≤ 4
 unfolding offending
 four-or-less k c = go (selected c) (first-small _ _ _ _)
@@ -65,10 +61,10 @@ unfolding rowFor overallIn overallFor
 rowFor-length s w i =
     let t = slotType s i in
     let at = slotAt s i in
-    let o = bestOf (typeKind s t) (storedIn s t) (wantedIn s w t) (typeCount s t) (4 * typeCount s t) in
-    go (at .overall) o (one (at .kind) o (settingsAt s (at .first)) (settingsIn w (at .first)))
-    (best-row (typeKind s t) (storedIn s t) (wantedIn s w t) (typeCount s t) (4 * typeCount s t) .0)
-    (one-row (at .kind) (settingsAt s (at .first)) (settingsIn w (at .first)) o .0)
+    let o = bestOf (typeKind s t) (storedIn s t) (wantedIn s w t) (typeCount s t) (typeCount s t) in
+    go (at .overall) o (one (at .kind) (controlOf (at .kind) o) (settingsAt s (at .first)) (settingsIn w (at .first)))
+    (best-row (typeKind s t) (storedIn s t) (wantedIn s w t) (typeCount s t) (typeCount s t) .0)
+    (one-row (at .kind) (settingsAt s (at .first)) (settingsIn w (at .first)) (controlOf (at .kind) o) .0)
   where
     go : (t : Bool) (x y : List ℕ) → length x ≡ 4 → length y ≡ 4 → length (pick t x y) ≡ 4
     go true x y h l = h
@@ -122,7 +118,7 @@ module _ (s w q : List ℕ) (hq : Bytes q) (v : valid s q ≡ true) (b : brought
         (selects (theirs a) + sumBelow (λ i. selects (theirs (a + (1 + i)))) m) (theirs a ++ joined (λ i. theirs (a + (1 + i))) m)
     unfolding overallIn
     ours-part =
-        part-first k (storedIn s t) (wantedIn s w t) m (λ i. refl) (theirs a) (λ i. theirs (a + (1 + i)))
+        part-first k (storedIn s t) (wantedIn s w t) m (theirs a) (λ i. theirs (a + (1 + i)))
         (rw (overall-kind s f t l) at (slot-row a (omega (arith, in-page))))
         (λ i. refl)
         (λ i h. rw (element-kind s f t l i h) at (slot-row (a + (1 + i)) (omega (arith, in-page))))

@@ -13,12 +13,11 @@ use Rattle.bits.specs.Places.{fourAt}
 use Rattle.bits.proofs.Logic.{never}
 use Rattle.bits.proofs.Rows.{joined-same, fours}
 use Rattle.kinds.specs.Settings.{settingsOf, settingsFormed}
-use Rattle.kinds.specs.Control.{offending}
+use Rattle.kinds.specs.Control.{controlOf, offending}
 use Rattle.kinds.proofs.Settled.{swap-kept}
 use Rattle.refusals.specs.declared.Answer.the-variants.{Accepted}
 use Rattle.wishes.specs.Wishes.{one}
 use Rattle.wishes.specs.Parts.{bestOf, overallFor}
-use Rattle.wishes.proofs.Told.{through-length}
 use Rattle.wishes.proofs.Ahead.{one-row, one-reaches}
 use Rattle.wishes.proofs.Part.{best-row}
 use Rattle.shelf.specs.Types.{typesOf, typeCount, before, elementsOf, typeOf, kindAt}
@@ -46,10 +45,10 @@ unfolding rowFor overallIn overallFor slotAt
 row-fine s w i =
     let t = slotType s i in
     let at = slotAt s i in
-    let o = bestOf (typeKind s t) (storedIn s t) (wantedIn s w t) (typeCount s t) (4 * typeCount s t) in
-    go (at .overall) o (one (typeKind s t) o (settingsAt s (at .first)) (settingsIn w (at .first)))
-    (best-row (typeKind s t) (storedIn s t) (wantedIn s w t) (typeCount s t) (4 * typeCount s t) .2)
-    (one-row (typeKind s t) (settingsAt s (at .first)) (settingsIn w (at .first)) o .2)
+    let o = bestOf (typeKind s t) (storedIn s t) (wantedIn s w t) (typeCount s t) (typeCount s t) in
+    go (at .overall) o (one (typeKind s t) (controlOf (typeKind s t) o) (settingsAt s (at .first)) (settingsIn w (at .first)))
+    (best-row (typeKind s t) (storedIn s t) (wantedIn s w t) (typeCount s t) (typeCount s t) .2)
+    (one-row (typeKind s t) (settingsAt s (at .first)) (settingsIn w (at .first)) (controlOf (at .kind) o) .2)
   where
     go : (b : Bool) (x y : List ℕ) → offending (typeKind s (slotType s i)) x ≡ 4 → offending (typeKind s (slotType s i)) y ≡ 4
         → offending (typeKind s (slotType s i)) (pick b x y) ≡ 4
@@ -96,12 +95,12 @@ module _ (s w : List ℕ) (f : wellFormed s ≡ true) where
           let o = overallIn s w t in
           let g : settingsFormed k (settingsIn w j) ≡ true = rw (element-kind-at s ff t l i m) at (c .0) in
           let z : settingsOf k (settingsIn w j) .swap ≡ true → settingsOf k (settingsAt s j) .swap ≡ true = rw (element-kind-at s ff t l i m) at (c .1) in
-          let own : fourAt (controlPage s w) (slotPlace (ownSlot s j)) ≡ one k o (storedIn s t i) (wantedIn s w t i) =
+          let own : fourAt (controlPage s w) (slotPlace (ownSlot s j)) ≡ one k (controlOf k o) (storedIn s t i) (wantedIn s w t i) =
           made-row s w (ownSlot s j) (own-there s j there ff) ∙ ap (rowFor s w) (own-slot s ff t l i m) ∙ element-row s ff t l i m w in
           let all : fourAt (controlPage s w) (slotPlace (overallSlot s j)) ≡ o =
           made-row s w (overallSlot s j) (overall-there s j there ff) ∙ ap (rowFor s w) (overall-slot s ff t l i m) ∙ overall-row s ff t l w in
           rw (own, all, element-kind-at s ff t l i m)
-          (one-reaches k (storedIn s t i) (wantedIn s w t i) o (refl, four-small w hw (4 * j), g, z) (through-length k o (storedIn s t i) (stored-length s j)))
+          (one-reaches k (storedIn s t i) (wantedIn s w t i) (controlOf k o) (refl, four-small w hw (4 * j), g, z) (stored-length s j))
 
     module _ (can : (j : ℕ) → j < elementsOf s → Can j) where
       reached-at : (j : ℕ) → j < elementsOf s → settingsAfter s (controlPage s w) j ≡ settingsIn w j

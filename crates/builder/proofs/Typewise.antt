@@ -7,6 +7,7 @@ use native.Mathlib.Nat.{add-zero}
 use native.Mathlib.Omega.{arith}
 use borrow.Author.Tests.{eq-eqb, ne-eqb}
 use Rattle.bits.proofs.Logic.{pick-yes, pick-no}
+use Rattle.kinds.specs.Control.{controlOf}
 use Rattle.wishes.specs.Wishes.{one}
 use Rattle.shelf.specs.Limits.{mostTypes}
 use Rattle.shelf.specs.Types.{typesOf, typeCount, before, elementsOf, typeOf, kindAt}
@@ -85,7 +86,7 @@ module _ (s : List ℕ) (f : frontFormed s ≡ true) where
       unfolding slotAt
       element-kind = ap (typeKind s) slot-typed
 
-      pub element-row : (w : List ℕ) → rowFor s w (startOf s t + (1 + i)) ≡ one (typeKind s t) (overallIn s w t) (storedIn s t i) (wantedIn s w t i)
+      pub element-row : (w : List ℕ) → rowFor s w (startOf s t + (1 + i)) ≡ one (typeKind s t) (controlOf (typeKind s t) (overallIn s w t)) (storedIn s t i) (wantedIn s w t i)
       unfolding rowFor
       element-row w =
           pick-no _ _ _ overall-false

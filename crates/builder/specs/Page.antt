@@ -5,6 +5,7 @@ use Rattle.bits.specs.Choice.{pick}
 use Rattle.bits.specs.Rows.{joined}
 use Rattle.kinds.specs.declared.types.Kind.{Kind}
 use Rattle.kinds.specs.Types.{kindOf}
+use Rattle.kinds.specs.Control.{controlOf}
 use Rattle.wishes.specs.Wishes.{one}
 use Rattle.wishes.specs.Parts.{overallFor}
 use Rattle.shelf.specs.Types.{typeCode, typeCount, before}
@@ -33,7 +34,7 @@ unfoldable pub rowFor : List ℕ → List ℕ → ℕ → List ℕ
 rowFor s w i =
     let at : Slot = slotAt s i in
     let o : List ℕ = overallIn s w (slotType s i) in
-    pick (at .overall) o (one (at .kind) o (settingsAt s (at .first)) (settingsIn w (at .first)))
+    pick (at .overall) o (one (at .kind) (controlOf (at .kind) o) (settingsAt s (at .first)) (settingsIn w (at .first)))
 
 unfoldable pub controlPage : List ℕ → List ℕ → List ℕ
 controlPage s w = header s 0x02 0 (slotsOf s) ++ joined (rowFor s w) (slotsOf s)

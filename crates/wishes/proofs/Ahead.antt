@@ -21,7 +21,8 @@ use Rattle.kinds.specs.declared.control.Control.{Control}
 use Rattle.kinds.specs.Settings.{settingsOf, settingsBytes, speedFormed, settingsFormed}
 use Rattle.kinds.specs.Control.{selected, unselected, asking, controlOf, offending, chosen, speedAfter, acted, settled}
 use Rattle.kinds.proofs.Back.{Storable, four, settings-back, settings-again, settings-storable, asked-storable, in-settings}
-use Rattle.wishes.specs.Wishes.{silent, alike, askBytes, requestFor, clearing, turning, own, through, one}
+use Rattle.kinds.proofs.Settled.{settled-length}
+use Rattle.wishes.specs.Wishes.{silent, alike, askBytes, requestFor, clearing, turning, own, brings, one}
 use Rattle.wishes.proofs.Asked.{low-half}
 use Rattle.wishes.proofs.Asking.{Reaches, ask-again, request-reaches, request-is, reaches-it}
 use Rattle.wishes.proofs.Told.{ask-selected, ask-fine, ask-length, ask-small, ask-control, silent-fine}
@@ -128,7 +129,7 @@ request-storable Voltage s x h = (h .0, turning-none (s .speed) (x .speed) (h .1
 request-storable Current s x h = (h .0, turning-none (s .speed) (x .speed) (h .1))
 
 -- four bytes that are alike are the same
-alike-same : (a b : List ℕ) → length a ≡ 4 → length b ≡ 4 → alike a b ≡ true → a ≡ b
+pub alike-same : (a b : List ℕ) → length a ≡ 4 → length b ≡ 4 → alike a b ≡ true → a ≡ b
 unfolding alike
 alike-same a b m n t =
     let h = and-four (eqb (getD a 0 0) (getD b 0 0)) (eqb (getD a 1 0) (getD b 1 0)) (eqb (getD a 2 0) (getD b 2 0)) (eqb (getD a 3 0) (getD b 3 0)) t in
@@ -222,42 +223,50 @@ module _ (k : Kind) (e w : List ℕ) where
         ∙ ap (settingsBytes k) (request-reaches s x (clearing s x) (turning (s .speed) (x .speed)) own-request)
         ∙ stored-is
 
-  -- of those that bring e to w under the overall element o, none comes before the one that is sent
-  module _ (o : List ℕ) where
-    -- what o and an individual element make of e
+  -- of those that bring e to w under an overall element that asks for c, none comes before the one that is sent
+  module _ (c : Control) where
+    -- what that and an individual element make of e
     abbrev effect : List ℕ → List ℕ
-    effect c = settled k (chosen (controlOf k o) (controlOf k c)) e
+    effect d = settled k (chosen c (controlOf k d)) e
 
-    pub effect-off : (c : List ℕ) → selected c ≡ false → effect c ≡ through k o e
-    unfolding chosen controlOf through
-    effect-off c t = rw t
-
-    effect-on : (c : List ℕ) → selected c ≡ true → effect c ≡ settled k (controlOf k c) e
+    pub effect-off : (d : List ℕ) → selected d ≡ false → effect d ≡ settled k c e
     unfolding chosen controlOf
-    effect-on c t = rw t
+    effect-off d t = rw t
 
-    pub one-first : (c : List ℕ) → length w ≡ 4 → Row k c → effect c ≡ w → NotAfter (num (selected (one k o e w))) (one k o e w) (num (selected c)) c
+    effect-on : (d : List ℕ) → selected d ≡ true → effect d ≡ settled k (controlOf k d) e
+    unfolding chosen controlOf
+    effect-on d t = rw t
+
+    pub one-first : (d : List ℕ) → Row k d → effect d ≡ w → NotAfter (num (selected (one k c e w))) (one k c e w) (num (selected d)) d
     unfolding one
-    one-first c n q h =
-        by-case (alike (through k o e) w) (λ t. rw t (there (selected c) refl))
-        (λ t. rw t (by-case (selected c) (λ u. alone u) (λ u. absurd (not-alike t (sym (effect-off c u) ∙ h)))))
+    one-first d q h =
+        by-case (brings k c e w) (λ t. rw t (there (selected d) refl))
+        (λ t. rw t (by-case (selected d) (λ u. alone u) (λ u. absurd (not-alike t (sym (effect-off d u) ∙ h)))))
       where
-        there : (b : Bool) → selected c ≡ b → NotAfter 0 silent (num (selected c)) c
+        there : (b : Bool) → selected d ≡ b → NotAfter 0 silent (num (selected d)) d
         there true u = inl (rw u (omega arith))
-        there false u = inr (rw u, silent-first c (q .0))
+        there false u = inr (rw u, silent-first d (q .0))
 
-        alone : selected c ≡ true → NotAfter (num (selected (own k e w))) (own k e w) (num (selected c)) c
-        alone u = inr (rw (u, own-selected), own-first c q u (sym (effect-on c u) ∙ h))
+        alone : selected d ≡ true → NotAfter (num (selected (own k e w))) (own k e w) (num (selected d)) d
+        alone u = inr (rw (u, own-selected), own-first d q u (sym (effect-on d u) ∙ h))
 
-        not-alike : alike (through k o e) w ≡ false → through k o e ≡ w → ⊥
-        not-alike t f = never (sym (alike-self w (through k o e) f) ∙ t)
+        not-alike : brings k c e w ≡ false → settled k c e ≡ w → ⊥
+        not-alike t f = unfold brings in never (sym (alike-self w (settled k c e) f) ∙ t)
 
-    pub one-reaches : Can → length (through k o e) ≡ 4 → effect (one k o e w) ≡ w
+    pub one-reaches : Can → length e ≡ 4 → effect (one k c e w) ≡ w
     unfolding one
     one-reaches g n =
-        by-case (alike (through k o e) w) (λ t. rw t (effect-off silent (silent-not k) ∙ alike-same (through k o e) w n (g .0) t))
+        by-case (brings k c e w) (λ t. rw t (effect-off silent (silent-not k) ∙ brought t))
         (λ t. rw t (effect-on (own k e w) own-selected ∙ own-reaches g))
+      where
+        brought : brings k c e w ≡ true → settled k c e ≡ w
+        brought t = unfold brings in alike-same (settled k c e) w (settled-length k c e n) (g .0) t
 
-    pub one-row : Row k (one k o e w)
+    pub one-row : Row k (one k c e w)
     unfolding one
-    one-row = by-case (alike (through k o e) w) (λ t. rw t (refl, silent-small, silent-fine k)) (λ t. rw t own-row)
+    one-row = by-case (brings k c e w) (λ t. rw t (refl, silent-small, silent-fine k)) (λ t. rw t own-row)
+
+    -- its SELECT: where the overall element does not do it
+    pub one-selects : num (selected (one k c e w)) ≡ num (not (brings k c e w))
+    unfolding one
+    one-selects = by-case (brings k c e w) (λ t. rw t) (λ t. rw (t, own-selected))

@@ -1,22 +1,25 @@
 -- The element that asks for given settings: its bytes, and what they say. Assumes nothing.
-use mathlib.Core.Path.{_≡_, refl, sym, ap, _∙_}
-use mathlib.Core.Bool.{Bool, true, false}
+use mathlib.Core.Path.{_≡_, refl, ap, _∙_}
+use mathlib.Core.Bool.{Bool, true, false, _&&_, _||_}
 use mathlib.Core.List.{List, [], _∷_}
-use Prim.Native.Nat.{ℕ, _+_, _<_}
+use Prim.Native.Nat.{ℕ, _+_, _%_, _<_, _≤_}
 use native.Mathlib.Omega.{arith}
 use lib.Bits.{bitOr}
-use lib.Dec.{eqb, ltb}
+use lib.Dec.{eqb, leb, ltb}
 use lib.ListN.{getD}
-use borrow.Author.Tests.{eqb-true, lt-ltb}
+use borrow.Author.Tests.{eqb-true, eq-eqb, ne-eqb, lt-ltb, le-leb, lt-leb}
 use Rattle.bits.specs.Bits.{nibble, join}
-use Rattle.bits.proofs.Logic.{pick-yes, byByteIf}
+use Rattle.bits.specs.Numbers.{big}
+use Rattle.bits.specs.Places.{fourAt}
+use Rattle.bits.proofs.Logic.{byByteIf}
 use Rattle.kinds.specs.declared.types.Kind.{Kind}
 use Rattle.kinds.specs.declared.types.Kind.the-variants.{Cooling, Temperature, Voltage, Current}
 use Rattle.kinds.specs.declared.settings.Settings.{Settings}
 use Rattle.kinds.specs.declared.control.Control.{Control}
 use Rattle.kinds.specs.Settings.{settingsOf, settingsBytes}
-use Rattle.kinds.specs.Control.{controlOf, acted, settled}
-use Rattle.wishes.specs.Wishes.{alike, silent, withSelect, askBytes, requestFor, clearing, turning, own, through, one}
+use Rattle.kinds.specs.Control.{acted, settled}
+use Rattle.wishes.specs.Wishes.{alike, silent, withSelect, askBytes, requestFor, clearing, turning, own, brings, one}
+use Rattle.wishes.specs.Parts.{tried, tries, sooner}
 
 pub low-half : (a b c : Bool) → nibble false a b c < 8
 low-half true true true = omega arith
@@ -50,28 +53,47 @@ ask-is k r {e} p =
     ap (λ (x : ℕ). x ∷ getD e 1 0 ∷ getD e 2 0 ∷ getD e 3 0 ∷ []) (or-select (getD e 0 0) h) ∙ ap withSelect p
 
 -- what the calls say
-pub own-is : (k : Kind) (e w : List ℕ) {s x : Settings} {n : ℕ} {c : List ℕ} → s ≡ settingsOf k e → x ≡ settingsOf k w → n ≡ turning (s .speed) (x .speed)
-    → c ≡ askBytes k (requestFor x (clearing s x) n) → c ≡ own k e w
+pub own-is : (k : Kind) (e w : List ℕ) {s x r : Settings} {n : ℕ} {c : List ℕ} → s ≡ settingsOf k e → x ≡ settingsOf k w → n ≡ turning (s .speed) (x .speed)
+    → r ≡ requestFor x (clearing s x) n → c ≡ askBytes k r → c ≡ own k e w
 unfolding own
-own-is k e w p q u h = h ∙ rw (u, p, q)
+own-is k e w p q u g h = h ∙ rw (g, u, p, q)
 
-module _ (k : Kind) (o e : List ℕ) {c : Control} (p : c ≡ controlOf k o) where
-  pub through-acts : {s x : Settings} {y : List ℕ} → c .select ≡ true → s ≡ settingsOf k e → x ≡ acted c s → y ≡ settingsBytes k x → y ≡ through k o e
-  unfolding through settled
-  through-acts t hs hx hy = hy ∙ rw (hx, hs) (sym (pick-yes _ _ _ t) ∙ ap (settled k c) refl) ∙ ap (λ (d : Control). settled k d e) p
+module _ (k : Kind) (c : Control) (e w : List ℕ) where
+  pub acts-is : {s x : Settings} {y : List ℕ} {b : Bool} → c .select ≡ true → s ≡ settingsOf k e → x ≡ acted c s → y ≡ settingsBytes k x → b ≡ alike y w → b ≡ brings k c e w
+  unfolding brings settled
+  acts-is t hs hx hy h = h ∙ rw (hy, hx, hs, t)
 
-  pub through-leaves : c .select ≡ false → e ≡ through k o e
-  unfolding through settled
-  through-leaves t = rw (← p, t)
+  pub leaves-is : {b : Bool} → c .select ≡ false → b ≡ alike e w → b ≡ brings k c e w
+  unfolding brings settled
+  leaves-is t h = h ∙ rw t
 
-module _ (k : Kind) (o e w : List ℕ) {x : List ℕ} {b : Bool} (p : x ≡ through k o e) (q : b ≡ alike x w) where
-  alike-is : b ≡ alike (through k o e) w
-  alike-is = q ∙ ap (λ (y : List ℕ). alike y w) p
+  module _ {b : Bool} (q : b ≡ brings k c e w) where
+    pub one-silent : b ≡ true → silent ≡ one k c e w
+    unfolding one
+    one-silent t = rw (← q, t)
 
-  pub one-silent : b ≡ true → silent ≡ one k o e w
-  unfolding one
-  one-silent t = rw (← alike-is, t)
+    pub one-own : {x : List ℕ} → b ≡ false → x ≡ own k e w → x ≡ one k c e w
+    unfolding one
+    one-own t h = h ∙ rw (← q, t)
 
-  pub one-own : {c : List ℕ} → b ≡ false → c ≡ own k e w → c ≡ one k o e w
-  unfolding one
-  one-own t h = h ∙ rw (← alike-is, t)
+-- what is tried for x, without a speed code and with one
+module _ (k : Kind) (x : List ℕ) (v : ℕ) {s r : Settings} {c : List ℕ} (p : s ≡ settingsOf k x) where
+  pub coded-is : 2 ≤ v → r ≡ requestFor s (eqb (v % 2) 1) (s .speed) → c ≡ askBytes k r → c ≡ tried k x v
+  unfolding tried
+  coded-is l q h = let t : leb 2 v ≡ true = le-leb 2 v l in h ∙ rw (q, p, t)
+
+  pub uncoded-is : v < 2 → r ≡ requestFor s (eqb (v % 2) 1) 0 → c ≡ askBytes k r → c ≡ tried k x v
+  unfolding tried
+  uncoded-is l q h = let t : leb 2 v ≡ false = lt-leb 2 v l in h ∙ rw (q, p, t)
+
+module _ (k : Kind) (x : List ℕ) {s : Settings} (p : s ≡ settingsOf k x) where
+  pub two-tries : s .speed ≡ 0 → 2 ≡ tries k x
+  unfolding tries
+  two-tries h = let t : eqb (s .speed) 0 ≡ true = eq-eqb _ _ h in rw (← p, t)
+
+  pub four-tries : (s .speed ≡ 0 → ⊥) → 4 ≡ tries k x
+  unfolding tries
+  four-tries h = let t : eqb (s .speed) 0 ≡ false = ne-eqb _ _ h in rw (← p, t)
+
+pub sooner-is : (m n : ℕ) (p q : List ℕ) {x y : ℕ} → x ≡ big (fourAt p 0) → y ≡ big (fourAt q 0) → ltb m n || (eqb m n && ltb x y) ≡ sooner m p n q
+sooner-is m n p q hx hy = rw (hx, hy)

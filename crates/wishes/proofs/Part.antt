@@ -1,37 +1,39 @@
 -- Of the parts that bring the elements of a type to their wishes, none comes before the one that is sent. Assumes nothing.
-use mathlib.Core.Path.{_≡_, refl, sym, ap, _∙_}
+use mathlib.Core.Path.{_≡_, refl, sym, ap, ap₂, _∙_}
 use mathlib.Core.Bool.{Bool, true, false, not, _&&_}
 use mathlib.Core.List.{List, [], _∷_, _++_}
 use mathlib.Core.Logic.{_⊎_, inl, inr, ⊎-elim}
-use Prim.Native.Nat.{ℕ, zero, suc, _+_, _*_, _/_, _%_, _<_, _≤_}
+use Prim.Native.Nat.{ℕ, zero, suc, _+_, _%_, _<_, _≤_}
 use native.Mathlib.Nat.{not-suc-le-zero, le-of-suc-le-suc, eq-or-lt-of-le}
 use native.Mathlib.Omega.{arith}
-use lib.Dec.{eqb, ltb}
+use lib.Dec.{eqb, leb, ltb}
 use lib.ListN.{length, getD}
-use borrow.Author.Tests.{eqb-true, ltb-true, ltb-false, eq-eqb, not-true, not-false}
+use borrow.Author.Tests.{eqb-true, ltb-true, ltb-false, le-ltb, eq-eqb, ne-eqb, not-true, not-false}
 use Rattle.bits.specs.Choice.{pick, firstBelow, sumBelow}
-use Rattle.bits.specs.Bits.{num, bit}
+use Rattle.bits.specs.Bits.{num}
 use Rattle.bits.specs.Numbers.{big}
+use Rattle.bits.specs.Places.{fourAt}
 use Rattle.bits.specs.Rows.{joined}
 use Rattle.bits.proofs.Logic.{never, by-case, pick-yes, pick-no, and-left, and-right, first-passes, first-fails}
 use Rattle.bits.proofs.Rows.{as-four}
 use Rattle.order.specs.Order.{InOrder, NotAfter}
-use Rattle.order.proofs.Dictionary.{order-refl, order-same, order-front}
-use Rattle.order.proofs.Counted.{after-refl, after-trans, after-append, after-rows}
+use Rattle.order.proofs.Dictionary.{order-refl, order-front}
+use Rattle.order.proofs.Counted.{after-refl, after-trans, after-append, after-rows, sum-same}
 use Rattle.kinds.specs.declared.types.Kind.{Kind}
 use Rattle.kinds.specs.declared.control.Control.{Control}
 use Rattle.kinds.specs.Settings.{settingsOf}
 use Rattle.kinds.specs.Control.{selected, unselected, controlOf, chosen, settled}
-use Rattle.wishes.specs.Wishes.{silent, askBytes, requestFor, through}
-use Rattle.wishes.specs.Parts.{selects, under, cost, part, tried, candidate, sooner, better, bestOf, overallFor}
-use Rattle.wishes.proofs.Told.{ask-fine, ask-length, ask-small, silent-control, silent-fine}
-use Rattle.wishes.proofs.Ahead.{Row, silent-first, silent-small, selected-acts, row-asks, effect-off, one-first, one-row}
+use Rattle.wishes.specs.Wishes.{silent, askBytes, requestFor, brings}
+use Rattle.wishes.specs.Parts.{selects, under, cost, part, tried, tries, sooner, better, bestTried, bestOf, overallFor}
+use Rattle.wishes.proofs.Told.{ask-selected, ask-fine, ask-length, ask-small, silent-control, silent-fine}
+use Rattle.wishes.proofs.Ahead.{Row, silent-first, silent-small, selected-acts, row-asks, effect-off, one-first, one-row, one-selects}
 use Rattle.wishes.proofs.Asking.{request-is, reaches-it, code-is}
 
--- rows of four bytes are in order as the numbers that they say
-abbrev Small : List ℕ → Type 0
-Small c = (length c ≡ 4) × ((i : ℕ) → getD c i 0 < 256)
+-- the number that four bytes say
+abbrev said : List ℕ → ℕ
+said c = big (fourAt c 0)
 
+-- control elements are in order as those numbers
 four-by-number : (a b c d x y z v : ℕ) → a < 256 → b < 256 → c < 256 → d < 256 → x < 256 → y < 256 → z < 256 → v < 256
     → big (a ∷ b ∷ c ∷ d ∷ []) ≤ big (x ∷ y ∷ z ∷ v ∷ []) → InOrder (a ∷ b ∷ c ∷ d ∷ []) (x ∷ y ∷ z ∷ v ∷ [])
 four-by-number a b c d x y z v ha hb hc hd hx hy hz hv h =
@@ -52,15 +54,11 @@ four-by-number a b c d x y z v ha hb hc hd hx hy hz hv h =
     (λ (e : a < x). inl e)
     (eq-or-lt-of-le (omega arith))
 
-by-number : (p q : List ℕ) → Small p → Small q → big p ≤ big q → InOrder p q
-by-number p q hp hq h =
-    let u = as-four p (hp .0) in
-    let v = as-four q (hq .0) in
-    let l : big (getD p 0 0 ∷ getD p 1 0 ∷ getD p 2 0 ∷ getD p 3 0 ∷ []) ≤ big (getD q 0 0 ∷ getD q 1 0 ∷ getD q 2 0 ∷ getD q 3 0 ∷ []) =
-    omega (arith, h, ap big u, ap big v) in
-    rw (u, v)
+by-number : (k : Kind) (p q : List ℕ) → Row k p → Row k q → said p ≤ said q → InOrder p q
+by-number k p q hp hq h =
+    rw (as-four p (hp .0), as-four q (hq .0))
     (four-by-number (getD p 0 0) (getD p 1 0) (getD p 2 0) (getD p 3 0) (getD q 0 0) (getD q 1 0) (getD q 2 0) (getD q 3 0)
-    (hp .1 0) (hp .1 1) (hp .1 2) (hp .1 3) (hq .1 0) (hq .1 1) (hq .1 2) (hq .1 3) l)
+    (hp .1 0) (hp .1 1) (hp .1 2) (hp .1 3) (hq .1 0) (hq .1 1) (hq .1 2) (hq .1 3) h)
 
 selects-most : (c : List ℕ) → selects c ≤ 1
 selects-most c = go (selected c)
@@ -95,9 +93,30 @@ tried-all k e w o q t h P f =
   where
     go : (b : Bool) (n : ℕ) → (n ≡ 0) ⊎ (n ≡ settingsOf k w .speed) → P (askBytes k (requestFor (settingsOf k w) b n))
     go false n (inl z) = rw z (f 0 (omega arith))
-    go false n (inr z) = rw z (f 1 (omega arith))
-    go true n (inl z) = rw z (f 2 (omega arith))
+    go false n (inr z) = rw z (f 2 (omega arith))
+    go true n (inl z) = rw z (f 1 (omega arith))
     go true n (inr z) = rw z (f 3 (omega arith))
+
+-- what is tried is a control element of the type, and selected
+pub tried-row : (k : Kind) (x : List ℕ) (v : ℕ) → Row k (tried k x v)
+unfolding tried
+tried-row k x v =
+    let s = settingsOf k x in
+    let r = requestFor s (eqb (v % 2) 1) (pick (leb 2 v) (s .speed) 0) in
+    (ask-length k r, ask-small k r, ask-fine k r)
+
+tried-selected : (k : Kind) (x : List ℕ) (v : ℕ) → selected (tried k x v) ≡ true
+unfolding tried
+tried-selected k x v = let s = settingsOf k x in ask-selected k (requestFor s (eqb (v % 2) 1) (pick (leb 2 v) (s .speed) 0))
+
+-- where no speed is wanted, the last two are the first two
+tried-again : (k : Kind) (x : List ℕ) → settingsOf k x .speed ≡ 0 → (tried k x 2 ≡ tried k x 0) × (tried k x 3 ≡ tried k x 1)
+unfolding tried
+tried-again k x z = (ap (λ n. askBytes k (requestFor (settingsOf k x) false n)) z, ap (λ n. askBytes k (requestFor (settingsOf k x) true n)) z)
+
+select-is : (k : Kind) (o : List ℕ) → controlOf k o .select ≡ selected o
+unfolding controlOf
+select-is k o = by-case (selected o) (λ t. rw t) (λ t. rw t)
 
 module _ (k : Kind) (e w : ℕ → List ℕ) (m : ℕ) where
   abbrev costs : List ℕ → ℕ
@@ -106,98 +125,173 @@ module _ (k : Kind) (e w : ℕ → List ℕ) (m : ℕ) where
   abbrev sent : List ℕ → List ℕ
   sent o = part k e w m o
 
-  -- parts compare as their overall elements do, where the SELECTs are as many
-  by-overall : (a b : List ℕ) → Small a → Small b → costs a ≡ costs b → big a ≤ big b → NotAfter (costs a) (sent a) (costs b) (sent b)
-  by-overall a b ha hb c h =
-      inr (
-        c,
-        order-front a b (joined (under k e w a) m) (joined (under k e w b) m) (ha .0 ∙ sym (hb .0)) (by-number a b ha hb h)
-            (λ q. rw q (order-refl (joined (under k e w b) m))),
-      )
+  -- what is counted: the overall SELECT, and the elements that it does not do
+  pub cost-is : (o : List ℕ) → cost k e w m o ≡ num (controlOf k o .select) + sumBelow (λ i. num (not (brings k (controlOf k o) (e i) (w i)))) m
+  unfolding cost
+  cost-is o = ap₂ _+_ (ap num (sym (select-is k o))) (sum-same _ _ m (λ i l. one-selects k (e i) (w i) (controlOf k o)))
 
-  -- the better of two is one of them, and not after either
-  better-is : (a b : List ℕ) → ((better k e w m a b ≡ b) × (sooner (costs b) b (costs a) a ≡ true)) ⊎ ((better k e w m a b ≡ a) × (sooner (costs b) b (costs a) a ≡ false))
-  unfolding better
-  better-is a b = by-case (sooner (costs b) b (costs a) a) (λ t. inl (pick-yes _ _ _ t, t)) (λ t. inr (pick-no _ _ _ t, t))
+  -- the order of overall elements: fewer SELECTs, or as many and not the larger number
+  abbrev Ranks : List ℕ → List ℕ → Type 0
+  Ranks a b = (costs a < costs b) ⊎ ((costs a ≡ costs b) × (said a ≤ said b))
 
-  soon : (a b : List ℕ) → Small a → Small b → sooner (costs b) b (costs a) a ≡ true → NotAfter (costs b) (sent b) (costs a) (sent a)
-  soon a b ha hb t =
-      by-case (ltb (costs b) (costs a)) (λ l. inl (ltb-true _ _ l))
-      (λ l.
-      let u : eqb (costs b) (costs a) && ltb (big b) (big a) ≡ true = rw l at t in
-      let c = eqb-true (costs b) (costs a) (and-left _ _ u) in
-      let n = ltb-true (big b) (big a) (and-right (eqb (costs b) (costs a)) _ u) in
-      by-overall b a hb ha c (omega arith))
+  ranks-refl : (a : List ℕ) → Ranks a a
+  ranks-refl a = inr (refl, omega arith)
 
-  late : (a b : List ℕ) → Small a → Small b → sooner (costs b) b (costs a) a ≡ false → NotAfter (costs a) (sent a) (costs b) (sent b)
-  late a b ha hb t =
-      by-case (ltb (costs b) (costs a)) (λ l. never (sym (early l) ∙ t))
-      (λ l.
-      let n = ltb-false (costs b) (costs a) l in
-      ⊎-elim (λ (c : costs a ≡ costs b). by-overall a b ha hb c (behind l c)) (λ (c : costs a < costs b). inl c) (eq-or-lt-of-le n))
-    where
-      early : ltb (costs b) (costs a) ≡ true → sooner (costs b) b (costs a) a ≡ true
-      early l = rw l
-
-      behind : ltb (costs b) (costs a) ≡ false → costs a ≡ costs b → big a ≤ big b
-      behind l c =
-          let q : eqb (costs b) (costs a) ≡ true = eq-eqb _ _ (sym c) in
-          let u : ltb (big b) (big a) ≡ false = rw (l, q) at t in
-          ltb-false (big b) (big a) u
-
-  better-left : (a b : List ℕ) → Small a → Small b → let c : List ℕ = better k e w m a b in NotAfter (costs c) (sent c) (costs a) (sent a)
-  better-left a b ha hb =
-      ⊎-elim (λ h. rw (h .0) (soon a b ha hb (h .1))) (λ h. rw (h .0) (after-refl (costs a) (sent a))) (better-is a b)
-
-  better-right : (a b : List ℕ) → Small a → Small b → let c : List ℕ = better k e w m a b in NotAfter (costs c) (sent c) (costs b) (sent b)
-  better-right a b ha hb =
-      ⊎-elim (λ h. rw (h .0) (after-refl (costs b) (sent b))) (λ h. rw (h .0) (late a b ha hb (h .1))) (better-is a b)
-
-  -- every candidate is a control element of the type
-  pub candidate-row : (n : ℕ) → Row k (candidate k w n)
-  unfolding tried
-  candidate-row n =
-      let s = settingsOf k (w (n / 4)) in
-      let r = requestFor s (bit 1 (n % 4)) (pick (bit 0 (n % 4)) (s .speed) 0) in
-      (ask-length k r, ask-small k r, ask-fine k r)
-
-  small-of : (c : List ℕ) → Row k c → Small c
-  small-of c h = (h .0, h .1)
-
-  silent-row : Row k silent
-  silent-row = (refl, silent-small, silent-fine k)
-
-  pub best-row : (n : ℕ) → Row k (bestOf k e w m n)
-  best-row zero = silent-row
-  best-row (suc n) = ⊎-elim (λ h. rw (h .0) (candidate-row n)) (λ h. rw (h .0) (best-row n)) (better-is (bestOf k e w m n) (candidate k w n))
+  ranks-trans : (a b c : List ℕ) → Ranks a b → Ranks b c → Ranks a c
+  ranks-trans a b c (inl h) (inl l) = inl (omega arith)
+  ranks-trans a b c (inl h) (inr l) = inl (omega (arith, h, l .0))
+  ranks-trans a b c (inr h) (inl l) = inl (omega (arith, l, h .0))
+  ranks-trans a b c (inr h) (inr l) = inr (h .0 ∙ l .0, omega (arith, h .1, l .1))
 
   abbrev Ahead : List ℕ → List ℕ → Type 0
   Ahead a b = NotAfter (costs a) (sent a) (costs b) (sent b)
 
-  ahead-trans : (a b c : List ℕ) → Ahead a b → Ahead b c → Ahead a c
-  ahead-trans a b c h l = after-trans (costs a) (costs b) (costs c) (sent a) (sent b) (sent c) h l
+  -- parts compare as their overall elements do
+  ahead : (a b : List ℕ) → Row k a → Row k b → Ranks a b → Ahead a b
+  ahead a b ha hb (inl h) = inl h
+  ahead a b ha hb (inr h) =
+      inr (
+        h .0,
+        order-front a b (joined (under k e w a) m) (joined (under k e w b) m) (ha .0 ∙ sym (hb .0)) (by-number k a b ha hb (h .1))
+            (λ q. rw q (order-refl (joined (under k e w b) m))),
+      )
 
-  best-start : (n : ℕ) → Ahead (bestOf k e w m n) silent
-  best-start zero = after-refl (costs silent) (sent silent)
-  best-start (suc n) =
-      let a = bestOf k e w m n in
-      let b = candidate k w n in
-      ahead-trans (better k e w m a b) a silent (better-left a b (small-of a (best-row n)) (small-of b (candidate-row n))) (best-start n)
+  soon : (a b : List ℕ) → sooner (costs b) b (costs a) a ≡ true → Ranks b a
+  soon a b t =
+      by-case (ltb (costs b) (costs a)) (λ l. inl (ltb-true _ _ l))
+      (λ l.
+      let u : eqb (costs b) (costs a) && ltb (said b) (said a) ≡ true = rw l at t in
+      let n = ltb-true (said b) (said a) (and-right (eqb (costs b) (costs a)) _ u) in
+      inr (eqb-true (costs b) (costs a) (and-left _ _ u), omega arith))
 
-  best-among : (n i : ℕ) → i < n → Ahead (bestOf k e w m n) (candidate k w i)
-  best-among zero i l = absurd (not-suc-le-zero l)
-  best-among (suc n) i l =
-      let a = bestOf k e w m n in
-      let b = candidate k w n in
-      let ha = small-of a (best-row n) in
-      let hb = small-of b (candidate-row n) in
+  late : (a b : List ℕ) → sooner (costs b) b (costs a) a ≡ false → Ranks a b
+  late a b t =
+      by-case (ltb (costs b) (costs a)) (λ l. never (sym (early l) ∙ t))
+      (λ l.
+      let n = ltb-false (costs b) (costs a) l in
+      ⊎-elim (λ (c : costs a ≡ costs b). inr (c, behind l c)) (λ (c : costs a < costs b). inl c) (eq-or-lt-of-le n))
+    where
+      early : ltb (costs b) (costs a) ≡ true → sooner (costs b) b (costs a) a ≡ true
+      early l = rw l
+
+      behind : ltb (costs b) (costs a) ≡ false → costs a ≡ costs b → said a ≤ said b
+      behind l c =
+          let q : eqb (costs b) (costs a) ≡ true = eq-eqb _ _ (sym c) in
+          let u : ltb (said b) (said a) ≡ false = rw (l, q) at t in
+          ltb-false (said b) (said a) u
+
+  not-sooner : (a b : List ℕ) → Ranks a b → sooner (costs b) b (costs a) a ≡ false
+  not-sooner a b (inl h) =
+      let l : ltb (costs b) (costs a) ≡ false = le-ltb (costs b) (costs a) (omega (arith, h)) in
+      let q : eqb (costs b) (costs a) ≡ false = ne-eqb (costs b) (costs a) (λ z. absurd (omega (arith, h, z))) in
+      rw (l, q)
+  not-sooner a b (inr h) =
+      let l : ltb (costs b) (costs a) ≡ false = le-ltb (costs b) (costs a) (omega (arith, h .0)) in
+      let n : ltb (said b) (said a) ≡ false = le-ltb (said b) (said a) (h .1) in
+      let q : eqb (costs b) (costs a) ≡ true = eq-eqb _ _ (sym (h .0)) in
+      rw (l, q, n)
+
+  -- the better of two is one of them, and not after either
+  better-is : (a b : List ℕ) → ((better k e w m a b ≡ b) × Ranks b a) ⊎ ((better k e w m a b ≡ a) × Ranks a b)
+  unfolding better
+  better-is a b = by-case (sooner (costs b) b (costs a) a) (λ t. inl (pick-yes _ _ _ t, soon a b t)) (λ t. inr (pick-no _ _ _ t, late a b t))
+
+  better-left : (a b : List ℕ) → Ranks (better k e w m a b) a
+  better-left a b = ⊎-elim (λ h. rw (h .0) (h .1)) (λ h. rw (h .0) (ranks-refl a)) (better-is a b)
+
+  better-right : (a b : List ℕ) → Ranks (better k e w m a b) b
+  better-right a b = ⊎-elim (λ h. rw (h .0) (ranks-refl b)) (λ h. rw (h .0) (h .1)) (better-is a b)
+
+  -- what one ranks before makes no difference to it
+  better-same : (a b : List ℕ) → Ranks a b → better k e w m a b ≡ a
+  unfolding better
+  better-same a b h = pick-no _ _ _ (not-sooner a b h)
+
+  -- over what is tried for one record
+  module _ (x a : List ℕ) where
+    abbrev upto : ℕ → List ℕ
+    upto v = bestTried k e w m x a v
+
+    upto-row : Row k a → (v : ℕ) → Row k (upto v)
+    upto-row h zero = h
+    upto-row h (suc v) = ⊎-elim (λ g. rw (g .0) (tried-row k x v)) (λ g. rw (g .0) (upto-row h v)) (better-is (upto v) (tried k x v))
+
+    upto-start : (v : ℕ) → Ranks (upto v) a
+    upto-start zero = ranks-refl a
+    upto-start (suc v) = ranks-trans (upto (suc v)) (upto v) a (better-left (upto v) (tried k x v)) (upto-start v)
+
+    upto-among : (v u : ℕ) → u < v → Ranks (upto v) (tried k x u)
+    upto-among zero u l = absurd (not-suc-le-zero l)
+    upto-among (suc v) u l =
+        ⊎-elim
+        (λ (q : u ≡ v). rw q (better-right (upto v) (tried k x v)))
+        (λ (q : u < v). ranks-trans (upto (suc v)) (upto v) (tried k x u) (better-left (upto v) (tried k x v)) (upto-among v u q))
+        (eq-or-lt-of-le (le-of-suc-le-suc l))
+
+    -- nothing new
+    upto-same : (v : ℕ) → ((u : ℕ) → u < v → Ranks a (tried k x u)) → upto v ≡ a
+    upto-same zero h = refl
+    upto-same (suc v) h =
+        ap (λ (y : List ℕ). better k e w m y (tried k x v)) (upto-same v (λ u l. h u (omega arith)))
+        ∙ better-same a (tried k x v) (h v (omega arith))
+
+    two-do : settingsOf k x .speed ≡ 0 → upto 4 ≡ upto 2
+    two-do z =
+        let t = tried-again k x z in
+        let b = upto 2 in
+        let c = better-same b (tried k x 0) (upto-among 2 0 (omega arith)) in
+        let d = better-same b (tried k x 1) (upto-among 2 1 (omega arith)) in
+        rw (t .0, t .1) (ap (λ (y : List ℕ). better k e w m y (tried k x 1)) c ∙ d)
+
+    pub tries-do : upto (tries k x) ≡ upto 4
+    unfolding tries
+    tries-do = by-case (eqb (settingsOf k x .speed) 0) (λ t. rw t (sym (two-do (eqb-true _ 0 t)))) (λ t. rw t)
+
+  -- and over all
+  abbrev best : ℕ → List ℕ
+  best n = bestOf k e w m n
+
+  silent-row : Row k silent
+  silent-row = (refl, silent-small, silent-fine k)
+
+  pub best-row : (n : ℕ) → Row k (best n)
+  best-row zero = silent-row
+  best-row (suc n) = upto-row (w n) (best n) (best-row n) 4
+
+  best-start : (n : ℕ) → Ranks (best n) silent
+  best-start zero = ranks-refl silent
+  best-start (suc n) = ranks-trans (best (suc n)) (best n) silent (upto-start (w n) (best n) 4) (best-start n)
+
+  best-among : (n i v : ℕ) → i < n → v < 4 → Ranks (best n) (tried k (w i) v)
+  best-among zero i v l b = absurd (not-suc-le-zero l)
+  best-among (suc n) i v l b =
       ⊎-elim
-      (λ (q : i ≡ n). rw q (better-right a b ha hb))
-      (λ (q : i < n). ahead-trans (better k e w m a b) a (candidate k w i) (better-left a b ha hb) (best-among n i q))
+      (λ (q : i ≡ n). rw q (upto-among (w n) (best n) 4 v b))
+      (λ (q : i < n). ranks-trans (best (suc n)) (best n) (tried k (w i) v) (upto-start (w n) (best n) 4) (best-among n i v q b))
       (eq-or-lt-of-le (le-of-suc-le-suc l))
 
+  -- a record that came before brings nothing new
+  pub best-again : (n i : ℕ) → i < n → w i ≡ w n → best (suc n) ≡ best n
+  best-again n i l q = upto-same (w n) (best n) 4 (λ v b. rw (← q) (best-among n i v l b))
+
+  -- nor does any where one SELECT at most is needed without an overall element
+  tried-counts : (x : List ℕ) (v : ℕ) → 1 ≤ costs (tried k x v)
+  unfolding cost
+  tried-counts x v = rw (tried-selected k x v) (omega arith)
+
+  pub best-none : costs silent ≤ 1 → (n : ℕ) → best n ≡ silent
+  best-none h zero = refl
+  best-none h (suc n) =
+      ap (λ (y : List ℕ). bestTried k e w m (w n) y 4) (best-none h n)
+      ∙ upto-same (w n) silent 4 (λ v l. none (w n) v)
+    where
+      none : (x : List ℕ) (v : ℕ) → Ranks silent (tried k x v)
+      none x v =
+          let c = tried-counts x v in
+          ⊎-elim (λ (q : costs silent ≡ costs (tried k x v)). inr (q, omega arith)) (λ (q : costs silent < costs (tried k x v)). inl q) (eq-or-lt-of-le (omega arith))
+
   -- a part that brings the elements to their wishes
-  module _ (hw : (i : ℕ) → length (w i) ≡ 4) (o : List ℕ) (c : ℕ → List ℕ) (ho : Row k o) (hc : (i : ℕ) → length (c i) ≡ 4) (rows : (i : ℕ) → i < m → Row k (c i))
+  module _ (o : List ℕ) (c : ℕ → List ℕ) (ho : Row k o) (hc : (i : ℕ) → length (c i) ≡ 4) (rows : (i : ℕ) → i < m → Row k (c i))
       (acts : (i : ℕ) → i < m → settled k (chosen (controlOf k o) (controlOf k (c i))) (e i) ≡ w i) where
     abbrev theirs : ℕ
     theirs = sumBelow (λ i. selects (c i)) m
@@ -206,9 +300,9 @@ module _ (k : Kind) (e w : ℕ → List ℕ) (m : ℕ) where
     fill : (x : List ℕ) → controlOf k o ≡ controlOf k x
         → NotAfter (sumBelow (λ i. selects (under k e w x i)) m) (joined (under k e w x) m) theirs (joined c m)
     fill x q =
-        after-rows selects 4 (under k e w x) c (λ i. one-row k (e i) (w i) x .0) hc m
+        after-rows selects 4 (under k e w x) c (λ i. one-row k (e i) (w i) (controlOf k x) .0) hc m
         (λ i l.
-        one-first k (e i) (w i) x (c i) (hw i) (rows i l) (ap (λ (d : Control). settled k (chosen d (controlOf k (c i))) (e i)) (sym q) ∙ acts i l))
+        one-first k (e i) (w i) (controlOf k x) (c i) (rows i l) (ap (λ (d : Control). settled k (chosen d (controlOf k (c i))) (e i)) (sym q) ∙ acts i l))
 
     same-overall : NotAfter (costs o) (sent o) (selects o + theirs) (o ++ joined c m)
     unfolding cost
@@ -236,16 +330,9 @@ module _ (k : Kind) (e w : ℕ → List ℕ) (m : ℕ) where
     left-to : (j : ℕ) → j < m → selected o ≡ true → selected (c j) ≡ false → NotAfter (costs (overallFor k e w m)) (sent (overallFor k e w m)) (costs o) (sent o)
     unfolding overallFor
     left-to j l t u =
-        tried-all k (e j) (w j) o ho t (sym (effect-off k (e j) (w j) o (c j) u ∙ through-is) ∙ acts j l) (λ x. Ahead (bestOf k e w m (4 * m)) x)
-        (λ v b.
-        let n = 4 * j + v in
-        let p : n / 4 ≡ j = omega arith in
-        let q : n % 4 ≡ v = omega arith in
-        let z = best-among (4 * m) n (omega arith) in
-        rw (p, q) at z)
-      where
-        through-is : through k o (e j) ≡ settled k (controlOf k o) (e j)
-        through-is = unfold through in refl
+        tried-all k (e j) (w j) o ho t (sym (effect-off k (e j) (w j) (controlOf k o) (c j) u) ∙ acts j l) (λ x. Row k x → Ahead (best m) x)
+        (λ v b r. ahead (best m) (tried k (w j) v) (best-row m) r (best-among m j v l b))
+        ho
 
     pub part-first : NotAfter (costs (overallFor k e w m)) (sent (overallFor k e w m)) (selects o + theirs) (o ++ joined c m)
     part-first =
@@ -256,7 +343,7 @@ module _ (k : Kind) (e w : ℕ → List ℕ) (m : ℕ) where
             → NotAfter (costs (overallFor k e w m)) (sent (overallFor k e w m)) (selects o + theirs) (o ++ joined c m)
         through-silent h =
             unfold overallFor in
-            after-trans (costs (bestOf k e w m (4 * m))) (costs silent) (selects o + theirs) (sent (bestOf k e w m (4 * m))) (sent silent) (o ++ joined c m) (best-start (4 * m)) h
+            after-trans (costs (best m)) (costs silent) (selects o + theirs) (sent (best m)) (sent silent) (o ++ joined c m) (ahead (best m) silent (best-row m) silent-row (best-start m)) h
 
         on : selected o ≡ true → (b : Bool) → ltb (firstBelow (λ i. not (selected (c i))) m) m ≡ b
             → NotAfter (costs (overallFor k e w m)) (sent (overallFor k e w m)) (selects o + theirs) (o ++ joined c m)

@@ -1,7 +1,7 @@
 -- What the element that asks for given settings says: it is selected, has no reserved bit, and asks for them. Assumes nothing.
 use mathlib.Core.Path.{_≡_, refl, sym, ap, _∙_}
 use mathlib.Core.Bool.{true}
-use mathlib.Core.List.{List, [], _∷_}
+use mathlib.Core.List.{[], _∷_}
 use Prim.Native.Nat.{ℕ, zero, suc, _+_, _-_, _<_}
 use native.Mathlib.Omega.{arith}
 use lib.Dec.{ltb}
@@ -16,8 +16,8 @@ use Rattle.kinds.specs.declared.settings.Settings.{Settings}
 use Rattle.kinds.specs.Settings.{fanBytes, sensorBytes, settingsOf, settingsBytes}
 use Rattle.kinds.specs.Control.{selected, unselected, asking, controlOf, offending}
 use Rattle.kinds.proofs.Back.{Storable, settings-back, first-clear, second-named, third-none, fourth-named}
-use Rattle.kinds.proofs.Settled.{length-bytes, settled-length}
-use Rattle.wishes.specs.Wishes.{silent, askBytes, through}
+use Rattle.kinds.proofs.Settled.{length-bytes}
+use Rattle.wishes.specs.Wishes.{silent, askBytes}
 use Rattle.wishes.proofs.Asked.{first-small}
 use Rattle.wishes.proofs.Asking.{heading, rest-same}
 
@@ -98,7 +98,3 @@ silent-control k = refl
 pub silent-fine : (k : Kind) → offending k silent ≡ 4
 unfolding offending
 silent-fine k = refl
-
-pub through-length : (k : Kind) (o e : List ℕ) → length e ≡ 4 → length (through k o e) ≡ 4
-unfolding through
-through-length k o e h = settled-length k (controlOf k o) e h

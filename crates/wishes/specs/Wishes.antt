@@ -8,7 +8,8 @@ use Rattle.bits.specs.Choice.{pick}
 use Rattle.kinds.specs.declared.types.Kind.{Kind}
 use Rattle.kinds.specs.declared.settings.Settings.{Settings}
 use Rattle.kinds.specs.Settings.{settingsOf, settingsBytes}
-use Rattle.kinds.specs.Control.{controlOf, settled}
+use Rattle.kinds.specs.declared.control.Control.{Control}
+use Rattle.kinds.specs.Control.{settled}
 
 -- four bytes that ask for nothing
 abbrev pub silent : List ℕ
@@ -51,10 +52,10 @@ own k e w =
     let x : Settings = settingsOf k w in
     askBytes k (requestFor x (clearing s x) (turning (s .speed) (x .speed)))
 
--- what the overall element o makes of stored settings
-unfoldable pub through : Kind → List ℕ → List ℕ → List ℕ
-through k o e = settled k (controlOf k o) e
+-- the control element c brings e to w
+unfoldable pub brings : Kind → Control → List ℕ → List ℕ → Bool
+brings k c e w = alike (settled k c e) w
 
--- the individual element under the overall one: none where that does it
-unfoldable pub one : Kind → List ℕ → List ℕ → List ℕ → List ℕ
-one k o e w = pick (alike (through k o e) w) silent (own k e w)
+-- the individual element under an overall one that asks for c: none where that does it
+unfoldable pub one : Kind → Control → List ℕ → List ℕ → List ℕ
+one k c e w = pick (brings k c e w) silent (own k e w)

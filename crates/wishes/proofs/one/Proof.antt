@@ -4,20 +4,17 @@ use borrow.Author.Needs.{needs}
 use Rattle.wishes.proofs.one.Statement.{statement}
 use Rattle.wishes.proofs.one.Tie as tie
 
-through-requires : tie.Need-through-requires
-through-requires c κs = search needs
-
-alike-requires : tie.Need-alike-requires
-alike-requires c κs = search needs
+brings-requires : tie.Need-brings-requires
+brings-requires c κs = search needs
 
 own-requires : tie.Need-own-requires
 own-requires c κs = search needs
 
 returns : tie.Need-returns
-returns c = let s = c .before .before .before .args in one-silent (s .kind) (s .overall) (s .stored) (s .wanted) (c .before .before .through .ensures) (c .before .alike .ensures) (c .if1 .taken)
+returns c = let s = c .before .before .args in one-silent (s .kind) (s .overall) (s .stored) (s .wanted) (c .before .brings .ensures) (c .if1 .taken)
 
 returns-2 : tie.Need-returns-2
-returns-2 c = let s = c .before .before .before .before .args in one-own (s .kind) (s .overall) (s .stored) (s .wanted) (c .before .before .before .through .ensures) (c .before .before .alike .ensures) (c .before .if1 .left) (c .own .ensures)
+returns-2 c = let s = c .before .before .before .args in one-own (s .kind) (s .overall) (s .stored) (s .wanted) (c .before .before .brings .ensures) (c .before .if1 .left) (c .own .ensures)
 
 pub one-spec : {M : Type 1} → statement M
-one-spec = tie.close (tie.spec through-requires alike-requires own-requires returns returns-2)
+one-spec = tie.close (tie.spec brings-requires own-requires returns returns-2)

@@ -1,0 +1,120 @@
+// The overall element for the elements of one type: the one that leaves the fewest SELECTs to send, the first in the dictionary among equals.
+//
+// Only what the wanted records ask for is tried, and the overall element unselected.
+use kinds::control::Control;
+use pages::slots::Slot;
+use shelf::elements;
+ghost use mathlib.Core.Path.{_≡_};
+ghost use Prim.Native.Nat.{suc, _-_, _≤_};
+ghost use Rattle.control.specs.Brought.{settingsIn};
+ghost use Rattle.choice.specs.Choice.{costOf, ranked, triedOne, bestAfter, bestAmong, repeated, overallOf};
+
+// An overall element, and the SELECTs that its type needs with it.
+pub struct Best {
+    pub overall: [u8; 4],
+    pub selects: u32,
+}
+
+// What is wanted of element j.
+pub fn wanted_at(wanted: &[u8], j: u16) -> [u8; 4]
+    ensures { λ r. ⌜ r ≡ settingsIn (now (wanted .entry)) j ⌝ }
+{
+    bits::four_at(wanted, 4 * j as u32)
+}
+
+// The SELECTs that the elements from `first` up to `end` need with this overall element, its own counted.
+fn cost(shelf: &[u8], wanted: &[u8], at: Slot, overall: [u8; 4]) -> u32
+    ensures { λ r. ⌜ r ≡ costOf (now (shelf .entry)) (now (wanted .entry)) at overall ⌝ }
+{
+    let kind = at.kind;
+    let control = Control::of(kind, overall);
+    let mut n = control.select as u32;
+    let mut j = at.first;
+    while j < at.end {
+        let done = wishes::brings(
+            kind,
+            control,
+            elements::settings_at(shelf, j),
+            wanted_at(wanted, j),
+        );
+        n += !done as u32;
+        j += 1;
+    }
+    n
+}
+
+fn try_one(shelf: &[u8], wanted: &[u8], at: Slot, best: Best, overall: [u8; 4]) -> Best
+    ensures { λ r. ⌜ r ≡ triedOne (now (shelf .entry)) (now (wanted .entry)) at best overall ⌝ }
+{
+    let selects = cost(shelf, wanted, at, overall);
+    let so_far = best.overall;
+    if wishes::sooner(selects, overall, best.selects, so_far) {
+        Best { overall, selects }
+    } else {
+        best
+    }
+}
+
+// The best of one and what is tried for a wanted record.
+fn try_record(shelf: &[u8], wanted: &[u8], at: Slot, best: Best, x: [u8; 4]) -> Best
+    requires { ⌜ best ≡ ranked (now shelf) (now wanted) at (best .overall) ⌝ }
+    ensures { λ r. ⌜ r ≡ ranked (now (shelf .entry)) (now (wanted .entry)) at (bestAfter (now (shelf .entry)) (now (wanted .entry)) at x (best .overall)) ⌝ }
+{
+    let kind = at.kind;
+    let n = wishes::tries(kind, x);
+    let mut best = best;
+    let mut v: u8 = 0;
+    while v < n {
+        best = try_one(shelf, wanted, at, best, wishes::tried(kind, x, v));
+        v += 1;
+    }
+    best
+}
+
+// Whether what is wanted of element j is wanted of one before it, from `first` on.
+fn is_repeated(wanted: &[u8], first: u16, j: u16) -> bool
+    ensures { λ r. ⌜ r ≡ repeated (now (wanted .entry)) first j ⌝ }
+{
+    let x = wanted_at(wanted, j);
+    let mut i = first;
+    while i < j {
+        if wishes::alike(wanted_at(wanted, i), x) {
+            return true;
+        }
+        i += 1;
+    }
+    false
+}
+
+// The best of one that is the best for the records before j, and what is tried for that of j.
+fn consider(shelf: &[u8], wanted: &[u8], at: Slot, best: Best, j: u16) -> Best
+    requires { ⌜ at .first ≤ j ⌝ }
+    requires { ⌜ best ≡ bestAmong (now shelf) (now wanted) at (j - at .first) ⌝ }
+    ensures { λ r. ⌜ r ≡ bestAmong (now (shelf .entry)) (now (wanted .entry)) at (suc (j - at .first)) ⌝ }
+{
+    if is_repeated(wanted, at.first, j) {
+        best
+    } else {
+        try_record(shelf, wanted, at, best, wanted_at(wanted, j))
+    }
+}
+
+// Where one SELECT at most is needed without an overall element, none with one does better.
+pub fn overall(shelf: &[u8], wanted: &[u8], at: Slot) -> [u8; 4]
+    ensures { λ r. ⌜ r ≡ overallOf (now (shelf .entry)) (now (wanted .entry)) at ⌝ }
+{
+    let selects = cost(shelf, wanted, at, wishes::SILENT);
+    if selects <= 1 {
+        return wishes::SILENT;
+    }
+    let mut best = Best {
+        overall: wishes::SILENT,
+        selects,
+    };
+    let mut j = at.first;
+    while j < at.end {
+        best = consider(shelf, wanted, at, best, j);
+        j += 1;
+    }
+    best.overall
+}

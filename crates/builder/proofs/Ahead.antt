@@ -25,7 +25,7 @@ use Rattle.pages.proofs.Filled.{slot-read}
 use Rattle.pages.proofs.HeadAgain.{length-tested, header-again}
 use Rattle.control.proofs.Valid.{valid-formed, valid-headed}
 use Rattle.builder.specs.Promise.{selectsOn, Reaching}
-use Rattle.builder.specs.Page.{rowFor, controlPage}
+use Rattle.builder.specs.Page.{rowFor, selectsFor, controlPage}
 use Rattle.builder.proofs.Typewise.{slots-end}
 use Rattle.builder.proofs.First.{rowFor-length, upto}
 
@@ -34,7 +34,7 @@ pub made-row : (s w : List ℕ) (i : ℕ) → i < slotsOf s → fourAt (controlP
 unfolding controlPage
 made-row s w i l = slot-read (rowFor s w) (rowFor-length s w) s 0x02 0 (slotsOf s) i l
 
-made-selects : (s w : List ℕ) → selectsOn s (controlPage s w) ≡ sumBelow (λ i. selects (rowFor s w i)) (slotsOf s)
+pub made-selects : (s w : List ℕ) → selectsOn s (controlPage s w) ≡ selectsFor s w (slotsOf s)
 made-selects s w = sum-same _ _ (slotsOf s) (λ i l. ap selects (made-row s w i l))
 
 -- pages whose headers differ in byte 1 alone

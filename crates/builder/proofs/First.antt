@@ -35,7 +35,7 @@ use Rattle.control.specs.Asked.{slotOffending, valid}
 use Rattle.control.specs.Brought.{settingsAfter, broughtTo, settingsIn}
 use Rattle.control.proofs.Valid.{valid-formed, valid-slot}
 use Rattle.control.proofs.Acted.{after-length}
-use Rattle.builder.specs.Page.{typeKind, storedIn, wantedIn, overallIn, rowFor}
+use Rattle.builder.specs.Page.{typeKind, storedIn, wantedIn, overallIn, rowUnder, rowFor}
 use Rattle.builder.proofs.Typewise.{slots-end, overall-row, overall-kind, element-kind, element-row, element-here, own-slot, overall-slot, element-kind-at}
 
 sum-one : (f : ℕ → ℕ) → sumBelow f 1 ≡ f 0
@@ -56,19 +56,24 @@ four-small q h m (suc (suc zero)) = byte-small q h (m + 2)
 four-small q h m (suc (suc (suc zero))) = byte-small q h (m + 3)
 four-small q h m (suc (suc (suc (suc i)))) = omega arith
 
-pub rowFor-length : (s w : List ℕ) (i : ℕ) → length (rowFor s w i) ≡ 4
-unfolding rowFor overallIn overallFor
-rowFor-length s w i =
+-- each slot of the page is a control element of its type
+pub rowFor-row : (s w : List ℕ) (i : ℕ) → Row (slotAt s i .kind) (rowFor s w i)
+unfolding rowFor rowUnder overallIn overallFor slotAt
+rowFor-row s w i =
     let t = slotType s i in
     let at = slotAt s i in
-    let o = bestOf (typeKind s t) (storedIn s t) (wantedIn s w t) (typeCount s t) (typeCount s t) in
-    go (at .overall) o (one (at .kind) (controlOf (at .kind) o) (settingsAt s (at .first)) (settingsIn w (at .first)))
-    (best-row (typeKind s t) (storedIn s t) (wantedIn s w t) (typeCount s t) (typeCount s t) .0)
-    (one-row (at .kind) (settingsAt s (at .first)) (settingsIn w (at .first)) (controlOf (at .kind) o) .0)
+    let k = typeKind s t in
+    let o = bestOf k (storedIn s t) (wantedIn s w t) (typeCount s t) (typeCount s t) in
+    go (at .overall) o (one k (controlOf k o) (settingsAt s (at .first)) (settingsIn w (at .first)))
+    (best-row k (storedIn s t) (wantedIn s w t) (typeCount s t) (typeCount s t))
+    (one-row k (settingsAt s (at .first)) (settingsIn w (at .first)) (controlOf k o))
   where
-    go : (t : Bool) (x y : List ℕ) → length x ≡ 4 → length y ≡ 4 → length (pick t x y) ≡ 4
+    go : (b : Bool) (x y : List ℕ) → Row (typeKind s (slotType s i)) x → Row (typeKind s (slotType s i)) y → Row (typeKind s (slotType s i)) (pick b x y)
     go true x y h l = h
     go false x y h l = l
+
+pub rowFor-length : (s w : List ℕ) (i : ℕ) → length (rowFor s w i) ≡ 4
+rowFor-length s w i = rowFor-row s w i .0
 
 -- what is wanted of an element that a page brings there
 pub brought : (s w q : List ℕ) → broughtTo s q ≡ w → (j : ℕ) → j < elementsOf s → settingsAfter s q j ≡ settingsIn w j

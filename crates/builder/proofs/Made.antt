@@ -1,13 +1,12 @@
 -- The page that is made is valid and reaches the wish; where a SWAP is wanted that is not stored, none does. Assumes nothing.
 use mathlib.Core.Path.{_≡_, refl, sym, ap, _∙_}
-use mathlib.Core.Bool.{Bool, true, false}
+use mathlib.Core.Bool.{true, false}
 use mathlib.Core.List.{List}
 use Prim.Native.Nat.{ℕ, _+_, _*_, _-_, _<_}
 use native.Mathlib.Omega.{arith}
 use lib.ListN.{length, take}
 use lib.Seq.{take-length}
 use borrow.Author.Tests.{le-ltb}
-use Rattle.bits.specs.Choice.{pick}
 use Rattle.bits.specs.Numbers.{Bytes}
 use Rattle.bits.specs.Places.{fourAt}
 use Rattle.bits.proofs.Logic.{never}
@@ -17,15 +16,13 @@ use Rattle.kinds.specs.Control.{controlOf, offending}
 use Rattle.kinds.proofs.Settled.{swap-kept}
 use Rattle.refusals.specs.declared.Answer.the-variants.{Accepted}
 use Rattle.wishes.specs.Wishes.{one}
-use Rattle.wishes.specs.Parts.{bestOf, overallFor}
-use Rattle.wishes.proofs.Ahead.{one-row, one-reaches}
-use Rattle.wishes.proofs.Part.{best-row}
+use Rattle.wishes.proofs.Ahead.{one-reaches}
 use Rattle.shelf.specs.Types.{typesOf, typeCount, before, elementsOf, typeOf, kindAt}
 use Rattle.shelf.specs.Elements.{settingsAt}
 use Rattle.shelf.proofs.Counts.{before-next}
 use Rattle.opening.specs.Formed.{frontFormed, wellFormed}
 use Rattle.opening.proofs.Typed.{type-start, type-end, type-named, front-formed}
-use Rattle.pages.specs.Slots.{slotsOf, slotType, slotAt, slotPlace}
+use Rattle.pages.specs.Slots.{slotsOf, slotAt, slotPlace}
 use Rattle.pages.specs.Places.{ownSlot, overallSlot, placesOf}
 use Rattle.pages.specs.Header.{pageAsked, header}
 use Rattle.pages.proofs.Bounds.{slots-bound}
@@ -36,24 +33,8 @@ use Rattle.control.specs.Brought.{settingsAfter, broughtTo, settingsIn}
 use Rattle.control.proofs.Valid.{firstFine, parts-valid}
 use Rattle.builder.specs.Page.{typeKind, storedIn, wantedIn, overallIn, rowFor, controlPage}
 use Rattle.builder.proofs.Typewise.{overall-row, element-row, own-slot, overall-slot, element-kind-at}
-use Rattle.builder.proofs.First.{four-small, rowFor-length, brought}
+use Rattle.builder.proofs.First.{four-small, rowFor-row, rowFor-length, brought}
 use Rattle.builder.proofs.Ahead.{made-row}
-
--- each slot of the page is a control element of its type
-row-fine : (s w : List ℕ) (i : ℕ) → offending (slotAt s i .kind) (rowFor s w i) ≡ 4
-unfolding rowFor overallIn overallFor slotAt
-row-fine s w i =
-    let t = slotType s i in
-    let at = slotAt s i in
-    let o = bestOf (typeKind s t) (storedIn s t) (wantedIn s w t) (typeCount s t) (typeCount s t) in
-    go (at .overall) o (one (typeKind s t) (controlOf (typeKind s t) o) (settingsAt s (at .first)) (settingsIn w (at .first)))
-    (best-row (typeKind s t) (storedIn s t) (wantedIn s w t) (typeCount s t) (typeCount s t) .2)
-    (one-row (typeKind s t) (settingsAt s (at .first)) (settingsIn w (at .first)) (controlOf (at .kind) o) .2)
-  where
-    go : (b : Bool) (x y : List ℕ) → offending (typeKind s (slotType s i)) x ≡ 4 → offending (typeKind s (slotType s i)) y ≡ 4
-        → offending (typeKind s (slotType s i)) (pick b x y) ≡ 4
-    go true x y h l = h
-    go false x y h l = l
 
 stored-length : (s : List ℕ) (j : ℕ) → length (settingsAt s j) ≡ 4
 unfolding settingsAt
@@ -76,7 +57,7 @@ module _ (s w : List ℕ) (f : wellFormed s ≡ true) where
   made-valid =
       parts-valid s (controlPage s w) headed-made first
       (λ i l.
-      let e = ap (offending (slotAt s i .kind)) (made-row s w i l) ∙ row-fine s w i in
+      let e = ap (offending (slotAt s i .kind)) (made-row s w i l) ∙ rowFor-row s w i .2 in
       le-ltb (offending (slotAt s i .kind) (fourAt (controlPage s w) (slotPlace i))) 4 (omega (arith, e)))
 
   -- a wish that can be reached: settings that the types may have, and no SWAP over a stored 0

@@ -19,7 +19,7 @@ use Rattle.pages.specs.Places.{ownSlot, overallSlot}
 use Rattle.pages.proofs.Counted.{start-next}
 use Rattle.pages.proofs.Paired.{slotted}
 use Rattle.pages.proofs.Fronted.{before-up, typed}
-use Rattle.builder.specs.Page.{typeKind, storedIn, wantedIn, overallIn, rowFor}
+use Rattle.builder.specs.Page.{typeKind, storedIn, wantedIn, overallIn, rowUnder, rowFor}
 
 module _ (s : List ℕ) (f : frontFormed s ≡ true) where
   -- the types that are there have all elements
@@ -54,7 +54,7 @@ module _ (s : List ℕ) (f : frontFormed s ≡ true) where
 
     -- the slot of a type's overall element
     pub overall-row : (w : List ℕ) → rowFor s w (startOf s t) ≡ overallIn s w t
-    unfolding rowFor slotAt
+    unfolding rowFor rowUnder slotAt
     overall-row w = pick-yes _ _ _ overall-is ∙ ap (overallIn s w) overall-typed
 
     pub overall-kind : slotAt s (startOf s t) .kind ≡ typeKind s t
@@ -87,7 +87,7 @@ module _ (s : List ℕ) (f : frontFormed s ≡ true) where
       element-kind = ap (typeKind s) slot-typed
 
       pub element-row : (w : List ℕ) → rowFor s w (startOf s t + (1 + i)) ≡ one (typeKind s t) (controlOf (typeKind s t) (overallIn s w t)) (storedIn s t i) (wantedIn s w t i)
-      unfolding rowFor
+      unfolding rowFor rowUnder
       element-row w =
           pick-no _ _ _ overall-false
           ∙ rw (element-kind, first-is, slot-typed)

@@ -1,1 +1,23 @@
-// The control page for a wish: fewest SELECTs, then first in the dictionary (specs/Page.antt), and that it is so (proofs/Best.antt).
+// The control page for a wish: the fewest SELECTs, overall ones counted, and the first in the dictionary of those.
+pub mod asked;
+pub mod built;
+pub mod page;
+
+use built::Built;
+use refusals::Answer;
+use refusals::Refusal;
+use shelf::types;
+ghost use Rattle.builder.specs.Promise.{Promised};
+
+pub fn build(shelf: &[u8], wanted: &[u8], out: &mut [u8]) -> Built
+    ensures { λ r. ⌜ Promised (now (shelf .entry)) (now (wanted .entry)) (now (out .entry)) r (now (out .exit)) ⌝ }
+{
+    let tested = asked::wish(shelf, wanted);
+    let Answer::Accepted = tested else {
+        return Built::refused(tested);
+    };
+    if !asked::reach(shelf, wanted, types::all_elements(shelf)) {
+        return Built::Refused(Refusal::Unreachable);
+    }
+    page::write(shelf, wanted, out)
+}

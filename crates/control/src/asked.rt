@@ -6,7 +6,7 @@ use refusals::Refusal;
 ghost use mathlib.Core.Path.{_≡_};
 ghost use Rattle.control.specs.Asked.{slotOffending, offence, controlAsked};
 
-const CODE: u8 = 0x02;
+pub const CODE: u8 = 0x02;
 
 // The first byte of slot i that is refused; 4 if none is.
 fn slot_offending(shelf: &[u8], page: &[u8], i: u16) -> u8

@@ -1,6 +1,6 @@
 -- The element that asks for given settings: its bytes, and what they say. Assumes nothing.
 use mathlib.Core.Path.{_≡_, refl, ap, _∙_}
-use mathlib.Core.Bool.{Bool, true, false, _&&_, _||_}
+use mathlib.Core.Bool.{Bool, true, false, not, _&&_, _||_}
 use mathlib.Core.List.{List, [], _∷_}
 use Prim.Native.Nat.{ℕ, _+_, _%_, _<_, _≤_}
 use native.Mathlib.Omega.{arith}
@@ -18,7 +18,7 @@ use Rattle.kinds.specs.declared.settings.Settings.{Settings}
 use Rattle.kinds.specs.declared.control.Control.{Control}
 use Rattle.kinds.specs.Settings.{settingsOf, settingsBytes}
 use Rattle.kinds.specs.Control.{acted, settled}
-use Rattle.wishes.specs.Wishes.{alike, silent, withSelect, askBytes, requestFor, clearing, turning, own, brings, one}
+use Rattle.wishes.specs.Wishes.{inReach, alike, silent, withSelect, askBytes, requestFor, clearing, turning, own, brings, one}
 use Rattle.wishes.specs.Parts.{tried, tries, sooner}
 
 pub low-half : (a b c : Bool) → nibble false a b c < 8
@@ -53,6 +53,10 @@ ask-is k r {e} p =
     ap (λ (x : ℕ). x ∷ getD e 1 0 ∷ getD e 2 0 ∷ getD e 3 0 ∷ []) (or-select (getD e 0 0) h) ∙ ap withSelect p
 
 -- what the calls say
+pub reach-is : (k : Kind) (e w : List ℕ) {s x : Settings} → s ≡ settingsOf k e → x ≡ settingsOf k w → s .swap || not (x .swap) ≡ inReach k e w
+unfolding inReach
+reach-is k e w p q = rw (p, q)
+
 pub own-is : (k : Kind) (e w : List ℕ) {s x r : Settings} {n : ℕ} {c : List ℕ} → s ≡ settingsOf k e → x ≡ settingsOf k w → n ≡ turning (s .speed) (x .speed)
     → r ≡ requestFor x (clearing s x) n → c ≡ askBytes k r → c ≡ own k e w
 unfolding own

@@ -1,5 +1,5 @@
 -- One element's wish: the control elements that bring its stored settings to wanted ones. Assumes nothing.
-use mathlib.Core.Bool.{Bool, not, _&&_}
+use mathlib.Core.Bool.{Bool, not, _&&_, _||_}
 use mathlib.Core.List.{List, [], _∷_}
 use Prim.Native.Nat.{ℕ, _+_}
 use lib.Dec.{eqb}
@@ -14,6 +14,10 @@ use Rattle.kinds.specs.Control.{settled}
 -- four bytes that ask for nothing
 abbrev pub silent : List ℕ
 silent = 0 ∷ 0 ∷ 0 ∷ 0 ∷ []
+
+-- no control element sets a SWAP: a wanted one must be stored
+unfoldable pub inReach : Kind → List ℕ → List ℕ → Bool
+inReach k e w = settingsOf k e .swap || not (settingsOf k w .swap)
 
 -- four bytes are the same
 unfoldable pub alike : List ℕ → List ℕ → Bool

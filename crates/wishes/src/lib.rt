@@ -3,7 +3,7 @@ use kinds::control::Control;
 use kinds::settings::Settings;
 use kinds::types::Kind;
 ghost use mathlib.Core.Path.{_≡_};
-ghost use Rattle.wishes.specs.Wishes.{alike, askBytes, requestFor, turning, own, brings, one};
+ghost use Rattle.wishes.specs.Wishes.{inReach, alike, askBytes, requestFor, turning, own, brings, one};
 ghost use Rattle.wishes.specs.Parts.{tried, tries, sooner};
 
 // Asks for nothing.
@@ -13,6 +13,15 @@ pub fn alike(a: [u8; 4], b: [u8; 4]) -> bool
     ensures { λ r. ⌜ r ≡ alike a b ⌝ }
 {
     (a[0] == b[0]) & (a[1] == b[1]) & (a[2] == b[2]) & (a[3] == b[3])
+}
+
+// No control element sets a SWAP: a wanted one must be there.
+pub fn in_reach(kind: Kind, stored: [u8; 4], wanted: [u8; 4]) -> bool
+    ensures { λ r. ⌜ r ≡ inReach kind stored wanted ⌝ }
+{
+    let s = Settings::of(kind, stored);
+    let w = Settings::of(kind, wanted);
+    s.swap | !w.swap
 }
 
 // The selected element that asks for these settings.

@@ -1,0 +1,121 @@
+-- The call keeps its promise, and the promise settles the outcome. Assumes nothing.
+use mathlib.Core.Path.{_≡_, refl, sym, ap, _∙_}
+use mathlib.Core.Bool.{Bool, true, false, not, _&&_, _||_}
+use mathlib.Core.List.{List}
+use mathlib.Core.Logic.{inl, inr}
+use Prim.Native.Nat.{ℕ, zero, suc, _*_, _<_}
+use native.Mathlib.Omega.{arith}
+use lib.Dec.{eqb}
+use lib.ListN.{length}
+use borrow.Author.Tests.{eqb-true}
+use Rattle.bits.specs.Choice.{allBelow}
+use Rattle.bits.specs.Numbers.{Bytes}
+use Rattle.bits.proofs.Logic.{never, below-at}
+use Rattle.kinds.specs.Settings.{settingsOf}
+use Rattle.wishes.specs.Wishes.{inReach}
+use Rattle.refusals.specs.declared.Refusal.{Refusal}
+use Rattle.refusals.specs.declared.Refusal.the-variants.{ShelfNotWellFormed, WantedList, Unreachable}
+use Rattle.refusals.specs.declared.Answer.{Answer}
+use Rattle.refusals.specs.declared.Answer.the-variants as answer
+use Rattle.refusals.specs.Outcomes.{unless}
+use Rattle.refusals.proofs.Passed.{held, held-both}
+use Rattle.shelf.specs.Types.{elementsOf, kindAt}
+use Rattle.shelf.specs.Elements.{settingsAt}
+use Rattle.opening.specs.Formed.{wellFormed}
+use Rattle.pages.specs.Slots.{slotsOf}
+use Rattle.pages.specs.Header.{shelfAsked}
+use Rattle.control.specs.Brought.{settingsIn}
+use Rattle.builder.specs.declared.built.Built.{Built}
+use Rattle.builder.specs.declared.built.Built.the-variants.{Refused}
+use Rattle.builder.specs.Outcome.{passedOn, builtOf, leftBy}
+use Rattle.builder.specs.Promise.{mayBe, wishAsked, OutOfReach, Answered, Passed, Promised}
+use Rattle.builder.specs.Page.{selectsFor, controlPage, reachable}
+use Rattle.builder.proofs.Ahead.{made-selects}
+use Rattle.builder.proofs.Made.{out-of-reach}
+use Rattle.builder.proofs.Best.{made-best, only-one}
+
+-- a test that does not pass at each number fails at one
+some-fails : (f : ℕ → Bool) (n : ℕ) → allBelow f n ≡ false → (j : ℕ) × (j < n) × (f j ≡ false)
+some-fails f zero t = never t
+some-fails f (suc n) t = go (allBelow f n) (f n) refl refl t (some-fails f n)
+  where
+    go : (a b : Bool) → allBelow f n ≡ a → f n ≡ b → a && b ≡ false → (allBelow f n ≡ false → (j : ℕ) × (j < n) × (f j ≡ false)) → (j : ℕ) × (j < suc n) × (f j ≡ false)
+    go true true p q u h = never u
+    go true false p q u h = (n, omega arith, q)
+    go false b p q u h = let z = h p in (z .0, omega (arith, z .1), z .2)
+
+-- a SWAP that is wanted and not stored
+out-of : (a b : Bool) → a || not b ≡ false → (a ≡ false) × (b ≡ true)
+out-of true b t = never t
+out-of false true t = (refl, refl)
+out-of false false t = never t
+
+into : (a b : Bool) → a || not b ≡ true → b ≡ true → a ≡ true
+into true b t u = refl
+into false true t u = never (sym t)
+into false false t u = never (sym u)
+
+module _ (s w out : List ℕ) where
+  pub wish-refused : {a : Answer} {x : Refusal} {r : Built} → a ≡ wishAsked s w → a ≡ answer.Refused x → r ≡ passedOn a → Promised s w out r out
+  wish-refused {a} {x} {r} p u h =
+      let t : wishAsked s w ≡ answer.Refused x = sym p ∙ u in
+      let q : r ≡ Refused x = h ∙ ap passedOn u in
+      rw t (q, refl)
+
+  module _ {a : Answer} (p : a ≡ wishAsked s w) (u : a ≡ answer.Accepted) where
+    taken : wishAsked s w ≡ answer.Accepted
+    taken = sym p ∙ u
+
+    unreached : OutOfReach s w → Promised s w out (Refused Unreachable) out
+    unreached h = rw taken (inl (h, refl, refl))
+
+    pub none-reaches : {n : ℕ} {d : Bool} → n ≡ elementsOf s → d ≡ allBelow (reachable s w) n → d ≡ false → Promised s w out (Refused Unreachable) out
+    none-reaches {n} e h t =
+        let z = some-fails (reachable s w) n (sym h ∙ t) in
+        let k = kindAt s (z .0) in
+        let v = swaps (z .0) (z .2) in
+        unreached (λ q r. out-of-reach s w (z .0) (omega (arith, z .1, e)) (v .1) (v .0) q (r .2))
+      where
+        swaps : (j : ℕ) → reachable s w j ≡ false → (settingsOf (kindAt s j) (settingsAt s j) .swap ≡ false) × (settingsOf (kindAt s j) (settingsIn w j) .swap ≡ true)
+        swaps j f = unfold reachable inReach in out-of _ _ f
+
+    -- what the tests say
+    all-passed : (wellFormed s ≡ true) × (length w ≡ 4 * elementsOf s) × (allBelow (mayBe s w) (elementsOf s) ≡ true)
+    unfolding wishAsked
+    all-passed =
+        let b = held-both (shelfAsked s) (unless (eqb (length w) (4 * elementsOf s)) WantedList (unless (allBelow (mayBe s w) (elementsOf s)) WantedList answer.Accepted)) taken in
+        let f = held (wellFormed s) ShelfNotWellFormed answer.Accepted (b .0) in
+        let n = held (eqb (length w) (4 * elementsOf s)) WantedList (unless (allBelow (mayBe s w) (elementsOf s)) WantedList answer.Accepted) (b .1) in
+        (f .0, eqb-true _ _ (n .0), held (allBelow (mayBe s w) (elementsOf s)) WantedList answer.Accepted (n .1) .0)
+
+    pub page-promised : Bytes s → Bytes w → {n : ℕ} {d : Bool} {r : Built} {y : List ℕ} → n ≡ elementsOf s → d ≡ allBelow (reachable s w) n → d ≡ true
+        → r ≡ builtOf (controlPage s w) (selectsFor s w (slotsOf s)) out → y ≡ leftBy r (controlPage s w) out → Promised s w out r y
+    page-promised hs hw {n} e h t q v =
+        let z = all-passed in
+        rw taken
+        (inr (
+          controlPage s w,
+          made-best s w (z .0) hs hw (z .1) (λ j l. (below-at (mayBe s w) (elementsOf s) (z .2) j l, swap-stored j (below-at (reachable s w) n (sym h ∙ t) j (omega (arith, l, e))))),
+          q ∙ ap (λ (m : ℕ). builtOf (controlPage s w) m out) (sym (made-selects s w)),
+          v,
+        ))
+      where
+        swap-stored : (j : ℕ) → reachable s w j ≡ true → settingsOf (kindAt s j) (settingsIn w j) .swap ≡ true → settingsOf (kindAt s j) (settingsAt s j) .swap ≡ true
+        swap-stored j f = unfold reachable inReach in into _ _ f
+
+  -- two outcomes that keep the promise are one
+  pub settles : (r q : Built) (y z : List ℕ) → Promised s w out r y → Promised s w out q z → (r ≡ q) × (y ≡ z)
+  settles r q y z h l = go (wishAsked s w) h l
+    where
+      answered : Answered s w out r y → Answered s w out q z → (r ≡ q) × (y ≡ z)
+      answered (inl a) (inl b) = (a .1 ∙ sym (b .1), a .2 ∙ sym (b .2))
+      answered (inl a) (inr b) = absurd (a .0 (b .0) (b .1 .0))
+      answered (inr a) (inl b) = absurd (b .0 (a .0) (a .1 .0))
+      answered (inr a) (inr b) =
+          let p : a .0 ≡ b .0 = only-one s w (a .0) (b .0) (a .1) (b .1) in
+          let e : r ≡ q = a .2 ∙ rw p (sym (b .2)) in
+          (e, a .3 ∙ rw (e, p) (sym (b .3)))
+
+      go : (t : Answer) → Passed t s w out r y → Passed t s w out q z → (r ≡ q) × (y ≡ z)
+      go answer.Accepted a b = answered a b
+      go (answer.Refused x) a b = (a .0 ∙ sym (b .0), a .1 ∙ sym (b .1))

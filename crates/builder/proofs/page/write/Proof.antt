@@ -1,0 +1,44 @@
+-- `builder::page::write` meets its contract. Assumes nothing.
+use mathlib.Core.Path.{refl}
+use denote.Ref.{now}
+use Rattle.builder.proofs.Stages.{no-room, page-built, page-left}
+use borrow.Author.Needs.{needs}
+use Rattle.builder.proofs.page.write.Statement.{statement}
+use Rattle.builder.proofs.page.write.Tie as tie
+
+count-requires : tie.Need-count-requires
+count-requires c κs = search needs
+
+slot-place-requires : tie.Need-slot-place-requires
+slot-place-requires c κs = search needs
+
+cast-if1 : tie.Need-cast-if1
+cast-if1 c = search needs
+
+returns : tie.Need-returns
+returns c = let s = c .before .before .before .before .before .before .args in (no-room (now (s .shelf)) (now (s .wanted)) (now (s .out)) (c .before .before .count .ensures) (c .before .slot-place .ensures) (c .if1 .taken), refl)
+
+put-requires : tie.Need-put-requires
+put-requires c κs = search needs
+
+put-slots-requires : tie.Need-put-slots-requires
+put-slots-requires c κs = search needs
+
+same-length : tie.Need-same-length
+same-length c = search needs
+
+returns-2 : tie.Need-returns-2
+returns-2 c = let s = c .before .before .before .before .before .before .before .before .before .before .before .before .before .before .args in let e = c .before .before .before .before .before .before .before .before .before .before .count .ensures in let p = c .before .before .before .before .before .before .before .before .before .slot-place .ensures in let l = c .before .before .before .before .before .before .before .before .if1 .left in (page-built (now (s .shelf)) (now (s .wanted)) (now (s .out)) e p l (c .before .before .put-slots .ensures .0), page-left (now (s .shelf)) (now (s .wanted)) (now (s .out)) e p l (c .before .before .put-slots .result) (c .before .before .before .before .before .before .put .ensures) (c .before .before .put-slots .ensures .1))
+
+pub write-spec : {M : Type 1} → statement M
+write-spec =
+    tie.close
+    (tie.spec
+    count-requires
+    slot-place-requires
+    cast-if1
+    returns
+    put-requires
+    put-slots-requires
+    same-length
+    returns-2)

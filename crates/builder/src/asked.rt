@@ -1,0 +1,59 @@
+// Which wishes are taken, and which of them can be reached.
+use kinds::settings;
+use refusals::Answer;
+use refusals::Refusal;
+use shelf::elements;
+use shelf::types;
+ghost use mathlib.Core.Path.{_≡_};
+ghost use Rattle.bits.specs.Choice.{allBelow};
+ghost use Rattle.builder.specs.Promise.{mayBe, wishAsked};
+ghost use Rattle.builder.specs.Page.{reachable};
+
+// Whether each of the first n records is one that its type may have.
+fn may_be(shelf: &[u8], wanted: &[u8], n: u16) -> bool
+    ensures { λ r. ⌜ r ≡ allBelow (mayBe (now (shelf .entry)) (now (wanted .entry))) n ⌝ }
+{
+    let mut j: u16 = 0;
+    while j < n {
+        if !settings::are_formed(types::kind_at(shelf, j), choice::wanted_at(wanted, j)) {
+            return false;
+        }
+        j += 1;
+    }
+    true
+}
+
+// Whether each of the first n elements can be brought to its record.
+pub fn reach(shelf: &[u8], wanted: &[u8], n: u16) -> bool
+    ensures { λ r. ⌜ r ≡ allBelow (reachable (now (shelf .entry)) (now (wanted .entry))) n ⌝ }
+{
+    let mut j: u16 = 0;
+    while j < n {
+        if !wishes::in_reach(
+            types::kind_at(shelf, j),
+            elements::settings_at(shelf, j),
+            choice::wanted_at(wanted, j),
+        ) {
+            return false;
+        }
+        j += 1;
+    }
+    true
+}
+
+pub fn wish(shelf: &[u8], wanted: &[u8]) -> Answer
+    ensures { λ r. ⌜ r ≡ wishAsked (now (shelf .entry)) (now (wanted .entry)) ⌝ }
+{
+    let asked = pages::asked::shelf(shelf);
+    let Answer::Accepted = asked else {
+        return asked;
+    };
+    let n = types::all_elements(shelf);
+    if wanted.len() != 4 * n as usize {
+        return Answer::Refused(Refusal::WantedList);
+    }
+    if !may_be(shelf, wanted, n) {
+        return Answer::Refused(Refusal::WantedList);
+    }
+    asked
+}

@@ -2,11 +2,11 @@
  *
  * A shelf is one block of bytes that the caller owns (docs/LAYOUT.md). The library keeps no state and
  * allocates nothing. Every call takes whatever bytes it is given and answers with a refusal number, 0 if
- * it accepted. A refused call leaves every lent byte as it was, but for `written`, which is then 0. No call
- * has to be preceded by a check.
+ * it accepted. A refused call leaves every lent byte as it was, but for `written` and `selects`, which are
+ * then 0. No call has to be preceded by a check.
  *
  * A pointer is to as many bytes as its length says, and is not NULL, also where the length is 0. Where
- * a call takes two buffers, they do not overlap.
+ * a call takes several buffers, they do not overlap.
  *
  * Link with libses.a (`rt staticlib ses`, x86-64).
  */
@@ -132,6 +132,16 @@ uint8_t ses_apply_control(uint8_t *shelf, size_t shelf_length, const uint8_t *pa
  * byte of the type if that is not zero, else the stored one stays. If one element would break the order of
  * its thresholds, the whole page is refused. */
 uint8_t ses_apply_thresholds(uint8_t *shelf, size_t shelf_length, const uint8_t *page, size_t page_length);
+
+/* Write the enclosure control page (02h) that brings every element to exactly the settings wanted: four bytes
+ * for each element, in their order, as the shelf block stores them.  Refusals 1, 9, 10, 11.
+ * Of all pages that the shelf accepts and that do so it has the fewest SELECTs, overall ones counted, and is
+ * the first in dictionary order of those. `written` gets the bytes written, `selects` the SELECTs on the
+ * page; both are 0 if refused. Output after the page is kept. */
+uint8_t ses_build_control(const uint8_t *shelf, size_t shelf_length,
+                          const uint8_t *wanted, size_t wanted_length,
+                          uint8_t *out, size_t out_length,
+                          uint32_t *written, uint32_t *selects);
 
 #ifdef __cplusplus
 }

@@ -2,7 +2,7 @@
  *
  * A request is one byte that names the call, then its buffers, each a length of four bytes (the highest
  * first) and as many bytes. The answer is the call's own byte, for a call that writes a page the four
- * bytes of `written`, and then the buffer that it may change.
+ * bytes of `written`, for the builder those of `selects` too, and then the buffer that it may change.
  *
  *   c shelf                        ses_check
  *   A shelf out                    ses_write_configuration, written, and out
@@ -16,6 +16,7 @@
  *   I configuration record out     ses_rewrite_thresholds, written, and out
  *   J shelf page                   ses_apply_control, and the shelf
  *   K shelf page                   ses_apply_thresholds, and the shelf
+ *   L shelf wanted out             ses_build_control, written, selects, and out
  *   .                              all answers are sent
  */
 #include "ses.h"
@@ -39,7 +40,7 @@ struct buffer {
 };
 
 static struct buffer first, second, lent;
-static uint32_t written;
+static uint32_t written, selects;
 
 static void fail(const char *why)
 {
@@ -114,10 +115,10 @@ static void send_lent(void)
     fwrite(lent.bytes, 1, lent.length, stdout);
 }
 
-static void send_written(void)
+static void send_number(uint32_t number)
 {
     for (int shift = 24; shift >= 0; shift -= 8)
-        putchar(written >> shift & 0xFF);
+        putchar(number >> shift & 0xFF);
 }
 
 static void answer_write(uint8_t (*call)(const uint8_t *, size_t, uint8_t *, size_t, uint32_t *))
@@ -127,7 +128,7 @@ static void answer_write(uint8_t (*call)(const uint8_t *, size_t, uint8_t *, siz
     written = NOT_WRITTEN;
     putchar(call(first.bytes, first.length, lent.bytes, lent.length, &written));
     check_input(&first);
-    send_written();
+    send_number(written);
     send_lent();
 }
 
@@ -174,7 +175,7 @@ static void answer_rewrite_status(void)
                                lent.bytes, lent.length, &written));
     check_input(&first);
     check_input(&second);
-    send_written();
+    send_number(written);
     send_lent();
 }
 
@@ -188,7 +189,7 @@ static void answer_rewrite_thresholds(void)
                                    lent.bytes, lent.length, &written));
     check_input(&first);
     check_input(&second);
-    send_written();
+    send_number(written);
     send_lent();
 }
 
@@ -198,6 +199,22 @@ static void answer_apply(uint8_t (*call)(uint8_t *, size_t, const uint8_t *, siz
     take_input(&first);
     putchar(call(lent.bytes, lent.length, first.bytes, first.length));
     check_input(&first);
+    send_lent();
+}
+
+static void answer_build(void)
+{
+    take_input(&first);
+    take_input(&second);
+    take(&lent);
+    written = NOT_WRITTEN;
+    selects = NOT_WRITTEN;
+    putchar(ses_build_control(first.bytes, first.length, second.bytes, second.length,
+                              lent.bytes, lent.length, &written, &selects));
+    check_input(&first);
+    check_input(&second);
+    send_number(written);
+    send_number(selects);
     send_lent();
 }
 
@@ -242,6 +259,9 @@ int main(void)
             break;
         case 'K':
             answer_apply(ses_apply_thresholds);
+            break;
+        case 'L':
+            answer_build();
             break;
         case '.':
             fflush(stdout);

@@ -34,6 +34,23 @@ impl Request {
         }
     }
 
+    /// Every selected element that the type allows, with what it asks for.
+    pub fn every(kind: Kind) -> Vec<([u8; 4], Request)> {
+        let [first, second, third, fourth] = [0, 1, 2, 3].map(|at| allowed_bytes(kind, at));
+        let mut every = Vec::new();
+        for &byte0 in &first {
+            for &byte1 in &second {
+                for &byte2 in &third {
+                    for &byte3 in &fourth {
+                        let element = [byte0, byte1, byte2, byte3];
+                        every.push((element, Request::parse(kind, element)));
+                    }
+                }
+            }
+        }
+        every
+    }
+
     fn parse(kind: Kind, [byte0, byte1, _, byte3]: [u8; 4]) -> Request {
         let of_sensor = Request {
             prdfail: bit(byte0, 6),
@@ -95,6 +112,16 @@ impl Request {
     }
 }
 
+/// What this byte of a selected element may be. Whether a bit is reserved does not depend on the others.
+fn allowed_bytes(kind: Kind, at: usize) -> Vec<u8> {
+    let allowed = |byte: &u8| {
+        let mut element = [0x80, 0x00, 0x00, 0x00];
+        element[at] = *byte;
+        matches!(Request::decode(kind, element), Ok(Some(_)))
+    };
+    (0..=0xFF).filter(allowed).collect()
+}
+
 impl Element {
     /// Does what is asked, by the one request that is chosen for this element.
     pub fn obey(&mut self, request: Request) {
@@ -104,6 +131,14 @@ impl Element {
             | Element::Voltage { settings, .. }
             | Element::Current { settings, .. } => *settings = request.act(*settings),
         }
+    }
+
+    /// The element after this request, or after none.
+    pub fn obeying(mut self, request: Option<Request>) -> Element {
+        if let Some(request) = request {
+            self.obey(request);
+        }
+        self
     }
 }
 

@@ -1,5 +1,7 @@
-//! The pages 01h, 02h and 05h: what the readers of each hand back, and what those that act do to a shelf.
+//! The pages 01h, 02h and 05h: what the readers of each hand back, what those that act do to a shelf, and
+//! which is best for a wish.
 
+mod builder;
 pub mod calls;
 pub mod cases;
 pub mod compare;
@@ -25,6 +27,7 @@ pub enum Refusal {
     NoSuchThreshold = 7,
     ThresholdOrder = 8,
     Entries = 9,
+    Unreachable = 10,
     OutputTooShort = 11,
 }
 

@@ -410,6 +410,14 @@ impl Element {
         }
     }
 
+    /// The element with these settings, or none if its type may not have them.
+    pub fn with_settings(&self, settings: [u8; 4]) -> Option<Element> {
+        let mut bytes = self.bytes();
+        bytes[0..4].copy_from_slice(&settings);
+        let element = Element::parse(self.kind(), &mut Cursor { rest: &bytes })?;
+        (element.well_formed() && element.bytes() == bytes).then_some(element)
+    }
+
     fn bytes(&self) -> [u8; 16] {
         let (settings, reading, nominal) = match self {
             Element::Cooling {

@@ -2,6 +2,7 @@
 //! where it gives none.
 
 mod acting;
+mod building;
 mod pages;
 
 use crate::element::{Code, Limits, Verdict};
@@ -26,6 +27,7 @@ pub fn run() -> bool {
     block_of_fans_a(&mut checks);
     pages::check(&mut checks);
     acting::check(&mut checks);
+    building::check(&mut checks);
     println!(
         "selftest: {} checked, {} failed",
         checks.made, checks.failed

@@ -1,5 +1,5 @@
 -- What C is told of an answer: its number, the bytes written, and what is left in lent memory. Assumes nothing.
-use mathlib.Core.Path.{_≡_}
+use mathlib.Core.Path.{_≡_, sym, ap, _∙_}
 use mathlib.Core.Bool.{true, false}
 use mathlib.Core.List.{List}
 use Prim.Native.Nat.{ℕ}
@@ -12,6 +12,9 @@ use Rattle.refusals.specs.Numbers.{answerNumber, writtenNumber, bytesWritten}
 use Rattle.refusals.specs.Outcomes.{fitted, writes, outAfter, recordAfter}
 use Rattle.opening.specs.Formed.{wellFormed, configurationFormed}
 use Rattle.pages.specs.Header.{shelfAsked, configurationAsked}
+use Rattle.builder.specs.Outcome.{builtNumber, bytesBuilt, selectsBuilt}
+use Rattle.builder.proofs.Kept.{settles}
+use Rattle.ses.specs.Calls.{BuiltForC}
 
 module _ {w : Written} (v : Written) (page out : List ℕ) {n b : ℕ} {o : List ℕ} where
   pub written-told : w ≡ v → n ≡ writtenNumber w → b ≡ bytesWritten w → o ≡ outAfter w page out
@@ -35,3 +38,10 @@ module _ (s page out : List ℕ) where
 
   pub configuration-taken : {w : Written} → configurationFormed s ≡ true → w ≡ fitted (length page) (length out) → w ≡ writes (configurationAsked s) page out
   configuration-taken e q = rw e q
+
+-- what C is told of a page that is built is settled too
+module _ (s w out : List ℕ) where
+  pub built-settles : (n m : ℕ) (b c : ℕ) (k l : ℕ) (y z : List ℕ) → BuiltForC s w out n b k y → BuiltForC s w out m c l z → (n ≡ m) × (b ≡ c) × (k ≡ l) × (y ≡ z)
+  built-settles n m b c k l y z h g =
+      let e = settles s w out (h .0) (g .0) y z (h .1) (g .1) in
+      (h .2 ∙ ap builtNumber (e .0) ∙ sym (g .2), h .3 ∙ ap bytesBuilt (e .0) ∙ sym (g .3), h .4 ∙ ap selectsBuilt (e .0) ∙ sym (g .4), e .1)

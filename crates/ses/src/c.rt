@@ -18,7 +18,7 @@ ghost use Rattle.control.specs.Asked as control;
 ghost use Rattle.control.specs.Brought.{broughtTo, withSettings};
 ghost use Rattle.threshold_out.specs.Asked as thresholds;
 ghost use Rattle.threshold_out.specs.Taken.{takenFrom, withThresholds};
-ghost use Rattle.ses.specs.Calls.{configurationWritten, statusWritten, thresholdsWritten, configurationRewritten, statusRewritten, thresholdsRewritten};
+ghost use Rattle.ses.specs.Calls.{configurationWritten, statusWritten, thresholdsWritten, configurationRewritten, statusRewritten, thresholdsRewritten, BuiltForC};
 
 #[no_mangle]
 pub extern "C" fn ses_check(shelf: &[u8]) -> u8
@@ -156,4 +156,20 @@ pub extern "C" fn ses_apply_thresholds(shelf: &mut [u8], page: &[u8]) -> u8
     ensures { λ _. ⌜ now (shelf .exit) ≡ pick (thresholds.valid (now (shelf .entry)) (now (page .entry))) (withThresholds (now (shelf .entry)) (takenFrom (now (shelf .entry)) (now (page .entry)))) (now (shelf .entry)) ⌝ }
 {
     crate::apply_thresholds(shelf, page).number()
+}
+
+#[no_mangle]
+pub extern "C" fn ses_build_control(
+    shelf: &[u8],
+    wanted: &[u8],
+    out: &mut [u8],
+    written: &mut u32,
+    selects: &mut u32,
+) -> u8
+    ensures { λ r. ⌜ BuiltForC (now (shelf .entry)) (now (wanted .entry)) (now (out .entry)) r (now (written .exit)) (now (selects .exit)) (now (out .exit)) ⌝ }
+{
+    let built = crate::build_control(shelf, wanted, out);
+    *written = built.bytes();
+    *selects = built.selects();
+    built.number()
 }

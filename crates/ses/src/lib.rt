@@ -3,6 +3,7 @@
 // The module `c` has the same calls for C; include/ses.h declares them.
 pub mod c;
 
+use builder::built::Built;
 use opening::Opened;
 use refusals::Answer;
 use refusals::Refusal;
@@ -25,6 +26,7 @@ ghost use Rattle.control.specs.Asked as control;
 ghost use Rattle.control.specs.Brought.{broughtTo, withSettings};
 ghost use Rattle.threshold_out.specs.Asked as thresholds;
 ghost use Rattle.threshold_out.specs.Taken.{takenFrom, withThresholds};
+ghost use Rattle.builder.specs.Promise.{Promised};
 ghost use Rattle.ses.specs.Calls.{configurationWritten, statusWritten, thresholdsWritten, configurationRewritten, statusRewritten, thresholdsRewritten};
 
 // Is this block a well-formed shelf?
@@ -135,4 +137,11 @@ pub fn apply_thresholds(shelf: &mut [u8], page: &[u8]) -> Answer
     ensures { λ _. ⌜ now (shelf .exit) ≡ pick (thresholds.valid (now (shelf .entry)) (now (page .entry))) (withThresholds (now (shelf .entry)) (takenFrom (now (shelf .entry)) (now (page .entry)))) (now (shelf .entry)) ⌝ }
 {
     threshold_out::apply(shelf, page)
+}
+
+// The control page that brings the shelf to the wanted settings: four bytes for each element, as the shelf stores them.
+pub fn build_control(shelf: &[u8], wanted: &[u8], out: &mut [u8]) -> Built
+    ensures { λ r. ⌜ Promised (now (shelf .entry)) (now (wanted .entry)) (now (out .entry)) r (now (out .exit)) ⌝ }
+{
+    builder::build(shelf, wanted, out)
 }

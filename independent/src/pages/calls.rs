@@ -1,8 +1,8 @@
-//! The eleven calls on bytes, as the C library has them.
+//! The twelve calls on bytes, as the C library has them.
 
 use super::status::Status;
 use super::thresholds::ThresholdList;
-use super::{configuration, control, threshold_out, Refusal};
+use super::{builder, configuration, control, threshold_out, Refusal};
 use crate::record::{self, Configuration, Shelf};
 
 pub const CONFIGURATION_BYTES: usize = 332;
@@ -14,6 +14,14 @@ pub const THRESHOLDS_BYTES: usize = 292;
 pub struct Answer {
     pub number: u8,
     pub bytes: Vec<u8>,
+}
+
+impl Answer {
+    /// The length of the page, for a call that writes one.
+    pub fn written(&self) -> usize {
+        let length = self.bytes[1..5].try_into().expect("four bytes");
+        u32::from_be_bytes(length) as usize
+    }
 }
 
 pub struct Call {
@@ -109,7 +117,14 @@ pub static APPLY_THRESHOLDS: Call = Call {
     rule: Rule::Acting(apply_thresholds),
 };
 
-pub static ALL: [&Call; 11] = [
+pub static BUILD_CONTROL: Call = Call {
+    name: "build_control",
+    letter: b'L',
+    outcomes: &[0, 1, 9, 10, 11],
+    rule: Rule::OfTwo(build_control),
+};
+
+pub static ALL: [&Call; 12] = [
     &WRITE_CONFIGURATION,
     &WRITE_STATUS,
     &WRITE_THRESHOLDS,
@@ -121,13 +136,14 @@ pub static ALL: [&Call; 11] = [
     &REWRITE_THRESHOLDS,
     &APPLY_CONTROL,
     &APPLY_THRESHOLDS,
+    &BUILD_CONTROL,
 ];
 
 impl Call {
     pub fn answer(&self, inputs: &[Vec<u8>], lent: &[u8]) -> Answer {
         match (&self.rule, inputs) {
             (Rule::OfOne(rule), [input]) => rule(input, lent),
-            (Rule::OfTwo(rule), [configuration, input]) => rule(configuration, input, lent),
+            (Rule::OfTwo(rule), [first, second]) => rule(first, second, lent),
             (Rule::Acting(rule), [page]) => rule(lent, page),
             _ => panic!("{} takes another number of buffers", self.name),
         }
@@ -209,6 +225,16 @@ pub fn apply_thresholds(shelf: &[u8], page: &[u8]) -> Answer {
     handed_back(after.map(|shelf| shelf.block()), shelf)
 }
 
+/// As a call that writes a page, and after its length four bytes with the SELECTs on it.
+pub fn build_control(shelf: &[u8], wanted: &[u8], out: &[u8]) -> Answer {
+    let page = well_formed_shelf(shelf)
+        .and_then(|shelf| builder::page(&shelf, wanted))
+        .and_then(|page| fitting(page, out));
+    let (number, page) = outcome(page);
+    let numbers = [page.len(), builder::selects(&page)];
+    told(number, &numbers, laid_over(page, out))
+}
+
 fn well_formed_shelf(block: &[u8]) -> Result<Shelf, Refusal> {
     record::read(block)
         .filter(Shelf::well_formed)
@@ -221,25 +247,31 @@ fn well_formed(block: &[u8]) -> Result<Configuration, Refusal> {
 
 /// The number, four bytes with the length of the page, and the output buffer.
 fn wrote(page: Result<Vec<u8>, Refusal>, out: &[u8]) -> Answer {
-    let page = page.and_then(|page| {
-        if page.len() <= out.len() {
-            Ok(page)
-        } else {
-            Err(Refusal::OutputTooShort)
-        }
-    });
-    let (number, page) = outcome(page);
-    let mut bytes = vec![number];
-    bytes.extend((page.len() as u32).to_be_bytes());
-    bytes.extend(laid_over(page, out));
-    Answer { number, bytes }
+    let (number, page) = outcome(page.and_then(|page| fitting(page, out)));
+    told(number, &[page.len()], laid_over(page, out))
 }
 
 /// The number, and the record or shelf.
 fn handed_back(record: Result<Vec<u8>, Refusal>, before: &[u8]) -> Answer {
     let (number, record) = outcome(record);
+    told(number, &[], laid_over(record, before))
+}
+
+fn fitting(page: Vec<u8>, out: &[u8]) -> Result<Vec<u8>, Refusal> {
+    if page.len() <= out.len() {
+        Ok(page)
+    } else {
+        Err(Refusal::OutputTooShort)
+    }
+}
+
+/// An answer in the order in which the door sends it.
+fn told(number: u8, wide_numbers: &[usize], buffer: Vec<u8>) -> Answer {
     let mut bytes = vec![number];
-    bytes.extend(laid_over(record, before));
+    for wide in wide_numbers {
+        bytes.extend((*wide as u32).to_be_bytes());
+    }
+    bytes.extend(buffer);
     Answer { number, bytes }
 }
 

@@ -1,12 +1,14 @@
 //! Calls to compare: every call, with good input of every shape and with all that can be wrong.
 
 mod acting;
+mod building;
 mod changes;
 pub mod control;
 mod reading;
 mod rewriting;
 mod shapes;
 pub mod threshold_out;
+pub mod wishes;
 mod writing;
 
 use super::calls::{Answer, Call};
@@ -34,6 +36,7 @@ pub fn offer_all(rng: &mut Rng, offer: Offer) {
     rewriting::offer_all(rng, offer);
     control::offer_all(rng, offer);
     threshold_out::offer_all(rng, offer);
+    building::offer_all(rng, offer);
 }
 
 const LONGEST_PAGE: usize = 65_539;
@@ -54,9 +57,8 @@ fn writing_case(rng: &mut Rng, call: &'static Call, inputs: Vec<Vec<u8>>) -> Cas
 /// Empty if the call refuses.
 fn page_written(call: &Call, inputs: &[Vec<u8>]) -> Vec<u8> {
     let answer = call.answer(inputs, &[0; ROOM]);
-    let (header, out) = answer.bytes.split_at(5);
-    let length = usize::from(u16::from_be_bytes([header[3], header[4]]));
-    out[..length].to_vec()
+    let out = &answer.bytes[answer.bytes.len() - ROOM..];
+    out[..answer.written()].to_vec()
 }
 
 fn output_length(rng: &mut Rng, page: usize) -> usize {

@@ -1,4 +1,4 @@
-//! Compares the eleven calls on pages with the library's.
+//! Compares the twelve calls on pages with the library's.
 
 use super::cases::{self, Case};
 use super::coverage::Coverage;

@@ -5,7 +5,7 @@ use crate::element::{Request, ReservedBit};
 use crate::record::{Group, Shelf};
 use std::iter::zip;
 
-const CODE: u8 = 0x02;
+pub const CODE: u8 = 0x02;
 const RESERVED_IN_BYTE1: u8 = 0xF0;
 
 /// The shelf after the page. Refusals 2 to 6.

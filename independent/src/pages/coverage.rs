@@ -1,6 +1,7 @@
 //! How often the calls compared brought up each thing that they can.
 
-use super::calls::{self, Answer, APPLY_CONTROL, APPLY_THRESHOLDS, WRITE_STATUS};
+use super::builder;
+use super::calls::{self, Answer, APPLY_CONTROL, APPLY_THRESHOLDS, BUILD_CONTROL, WRITE_STATUS};
 use super::cases::Case;
 use super::status::Status;
 use super::{ElementPage, TypeElements};
@@ -43,6 +44,26 @@ const SOURCES: [(&str, &[u8]); 4] = [
     ("current", &[0, 1, 2, 3, 4, 5, 6, 7]),
 ];
 
+/// None, one, two, or more.
+const BUILT: [(&str, &[u8]); 1] = [("SELECTs", &[0, 1, 2, 3])];
+
+/// 2 for any individual element's SELECT, 1 for the overall one's. A type without elements has none.
+const BUILT_TYPES: [(&str, &[u8]); 5] = [
+    ("cooling", &[0, 1, 2, 3]),
+    ("temperature", &[0, 1, 2, 3]),
+    ("voltage", &[0, 1, 2, 3]),
+    ("current", &[0, 1, 2, 3]),
+    ("without elements", &[0]),
+];
+
+/// 2 for RST SWAP, 1 for a speed code other than 0.
+const BUILT_OVERALL: [(&str, &[u8]); 4] = [
+    ("cooling", &[0, 1, 2, 3]),
+    ("temperature", &[0, 2]),
+    ("voltage", &[0, 2]),
+    ("current", &[0, 2]),
+];
+
 /// How often each number came up under each name.
 #[derive(Default)]
 struct Tally(BTreeMap<(&'static str, u8), usize>);
@@ -54,6 +75,9 @@ pub struct Coverage {
     changed: Tally,
     selects: Tally,
     sources: Tally,
+    built: Tally,
+    built_types: Tally,
+    built_overall: Tally,
 }
 
 impl Tally {
@@ -94,13 +118,18 @@ impl Coverage {
             let (before, after) = (shelf_of(lent), shelf_of(&answer.bytes[1..]));
             self.count_changed(call.name, &before, &after);
             self.count_sources(&before, &inputs[0]);
+        } else if call.letter == BUILD_CONTROL.letter {
+            self.count_built(
+                &shelf_of(&inputs[0]),
+                &answer.bytes[9..][..answer.written()],
+            );
         }
     }
 
     /// False if something that can come up did so too rarely.
     pub fn print(&self) -> bool {
         let outcomes = calls::ALL.map(|call| (call.name, call.outcomes));
-        let told: [(&str, &Tally, &[(&'static str, &[u8])]); 5] = [
+        let told: [(&str, &Tally, &[(&'static str, &[u8])]); 8] = [
             ("by outcome", &self.outcomes, &outcomes),
             ("codes on the status pages written", &self.codes, &CODES),
             (
@@ -117,6 +146,21 @@ impl Coverage {
                 "thresholds by nonzero bytes, individual 4, overall 2, stored 1",
                 &self.sources,
                 &SOURCES,
+            ),
+            (
+                "pages built with no, one, two, more SELECTs",
+                &self.built,
+                &BUILT,
+            ),
+            (
+                "types on pages built by SELECT, any individual 2, overall 1",
+                &self.built_types,
+                &BUILT_TYPES,
+            ),
+            (
+                "overall SELECTs on pages built, with RST SWAP 2, a speed code 1",
+                &self.built_overall,
+                &BUILT_OVERALL,
             ),
         ];
         let mut enough = true;
@@ -150,10 +194,29 @@ impl Coverage {
 
     fn count_selects(&mut self, shelf: &Shelf, page: &[u8]) {
         for (group, asked) in by_group(shelf, page) {
-            let select = |element: [u8; 4]| bit(element[0], 7);
             for individual in asked.individual {
                 let number = flag(select(individual), 1) + flag(select(asked.overall), 0);
                 self.selects.count(kind_name(group.kind), number);
+            }
+        }
+    }
+
+    fn count_built(&mut self, shelf: &Shelf, page: &[u8]) {
+        self.built
+            .count("SELECTs", builder::selects(page).min(3) as u8);
+        for (group, asked) in by_group(shelf, page) {
+            let name = if group.elements.is_empty() {
+                "without elements"
+            } else {
+                kind_name(group.kind)
+            };
+            let any_individual = asked.individual.iter().any(|element| select(*element));
+            let number = flag(any_individual, 1) + flag(select(asked.overall), 0);
+            self.built_types.count(name, number);
+            if select(asked.overall) {
+                let [byte0, _, _, byte3] = asked.overall;
+                let number = flag(bit(byte0, 4), 1) + flag(byte3 % 8 != 0, 0);
+                self.built_overall.count(name, number);
             }
         }
     }
@@ -171,6 +234,10 @@ impl Coverage {
             }
         }
     }
+}
+
+fn select(element: [u8; 4]) -> bool {
+    bit(element[0], 7)
 }
 
 fn shelf_of(block: &[u8]) -> Shelf {

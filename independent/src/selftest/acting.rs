@@ -13,15 +13,15 @@ use crate::rng::Rng;
 const SEED: u64 = 0xAC7;
 const ROUNDS: usize = 500;
 
-const UNSELECTED: [u8; 4] = [0; 4];
-const SPEED_5: [u8; 4] = [0x80, 0x00, 0x00, 0x25];
-const IDENT: [u8; 4] = [0x80, 0x80, 0x00, 0x20];
-const RST_SWAP: [u8; 4] = [0x90, 0x00, 0x00, 0x20];
+pub(super) const UNSELECTED: [u8; 4] = [0; 4];
+pub(super) const SPEED_5: [u8; 4] = [0x80, 0x00, 0x00, 0x25];
+pub(super) const IDENT: [u8; 4] = [0x80, 0x80, 0x00, 0x20];
+pub(super) const RST_SWAP: [u8; 4] = [0x90, 0x00, 0x00, 0x20];
 const SELECTED: [u8; 4] = [0x80, 0x00, 0x00, 0x00];
 /// Every bit but SELECT.
-const NOISE: [u8; 4] = [0x7F, 0xFF, 0xFF, 0xFF];
+pub(super) const NOISE: [u8; 4] = [0x7F, 0xFF, 0xFF, 0xFF];
 
-const SWAP: Settings = Settings {
+pub(super) const SWAP: Settings = Settings {
     prdfail: false,
     disabled: false,
     swap: true,

@@ -229,7 +229,11 @@ impl Actor {
 }
 
 fn broken_shelf(attempt: &mut Attempt, rng: &mut Rng) {
-    let block = &mut attempt.block;
+    break_block(&mut attempt.block, rng);
+}
+
+/// Makes a well-formed block malformed.
+pub fn break_block(block: &mut Vec<u8>, rng: &mut Rng) {
     match rng.range(0, 2) {
         0 => block.push(0),
         1 => block.truncate(block.len() - 1),

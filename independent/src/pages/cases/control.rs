@@ -37,7 +37,7 @@ pub fn offer_all(rng: &mut Rng, offer: Offer) {
 
 /// The bits that have a name in a control element of this type, but for SELECT. In the settings of a shelf
 /// block they are the same.
-fn named(kind: Kind) -> u32 {
+pub fn named(kind: Kind) -> u32 {
     match kind {
         Kind::Cooling => 0x7080_0067,
         Kind::Temperature | Kind::Voltage | Kind::Current => 0x70C0_0000,
@@ -48,7 +48,7 @@ fn reserved(kind: Kind) -> u32 {
     !(SELECT | named(kind))
 }
 
-fn four_bytes(rng: &mut Rng) -> u32 {
+pub fn four_bytes(rng: &mut Rng) -> u32 {
     u32::from_be_bytes(from_fn(|_| rng.byte()))
 }
 
@@ -100,12 +100,12 @@ fn not_allowed(attempt: &mut Attempt, rng: &mut Rng) {
     put(&mut attempt.page, slot, element.to_be_bytes());
 }
 
-fn every_single_bit() -> impl Iterator<Item = u32> {
+pub fn every_single_bit() -> impl Iterator<Item = u32> {
     (0..32).map(|place| 1 << place)
 }
 
 /// Every number whose bits are all among these.
-fn parts_of(bits: u32) -> Vec<u32> {
+pub fn parts_of(bits: u32) -> Vec<u32> {
     let mut parts = vec![0];
     for bit in every_single_bit().filter(|bit| bits & bit != 0) {
         let with_bit: Vec<u32> = parts.iter().map(|part| part | bit).collect();
@@ -120,7 +120,7 @@ fn every_request(kind: Kind) -> Vec<u32> {
 }
 
 /// A fan's speed code is not 0.
-fn every_setting(kind: Kind) -> Vec<u32> {
+pub fn every_setting(kind: Kind) -> Vec<u32> {
     let settings = parts_of(named(kind)).into_iter();
     settings
         .filter(|settings| kind != Kind::Cooling || settings & 0x07 != 0)
@@ -160,7 +160,7 @@ fn any_overall(rng: &mut Rng, kind: Kind) -> u32 {
     }
 }
 
-fn with_settings(shelf: &Shelf, stored: &[u32]) -> Vec<u8> {
+pub fn with_settings(shelf: &Shelf, stored: &[u32]) -> Vec<u8> {
     let mut block = shelf.block();
     for (place, settings) in stored.iter().enumerate() {
         let at = ELEMENTS_AT + ELEMENT_BYTES * place;

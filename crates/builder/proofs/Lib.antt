@@ -6,3 +6,4 @@ pub mod Ahead
 pub mod Made
 pub mod Best
 pub mod Kept
+pub mod Exactly

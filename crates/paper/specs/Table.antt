@@ -1,5 +1,6 @@
--- The cases that document 01 marks M, but for those on the builder's pages. Assumes nothing.
-use mathlib.Core.Bool.{false}
+-- The cases that document 01 marks M. Assumes nothing.
+use mathlib.Core.Path.{_≡_}
+use mathlib.Core.Bool.{true, false}
 use mathlib.Core.List.{List, [], _∷_, _++_}
 use Prim.Native.Nat.{ℕ}
 use lib.ListN.{replicate}
@@ -11,36 +12,38 @@ use Rattle.kinds.specs.Settings.{settingsOf}
 use Rattle.verdicts.specs.Verdict.{verdictOf}
 use Rattle.shown.specs.Status.{shownBy, statusBytes}
 use Rattle.opening.specs.Formed.{wellFormed}
-use Rattle.control.specs.Asked.{valid}
-use Rattle.control.specs.Brought.{broughtTo}
 use Rattle.status.specs.Page.{statusPage}
+use Rattle.refusals.specs.declared.Refusal.the-variants.{Unreachable}
+use Rattle.builder.specs.declared.built.Built.the-variants.{Refused}
+use Rattle.builder.specs.Outcome.{builtOf, leftBy}
+use Rattle.builder.specs.Promise.{Promised}
 
 pub data Case : Type 0 where
   -- an element of the type with these settings, reading, nominal and thresholds shows these bytes
   shows : Kind → List ℕ → ℕ → ℕ → List ℕ → List ℕ → Case
   -- reading, nominal and thresholds of a sensor give this code and these limit bits, in the order of the thresholds
   judges : Kind → ℕ → ℕ → List ℕ → List ℕ → Case
-  -- the control page is valid for the shelf, and brings it to these settings
-  brings : List ℕ → List ℕ → List ℕ → Case
   -- the shelf is well formed and has this status page
   tells : List ℕ → List ℕ → Case
+  -- for these wanted settings the shelf gets this control page, with so many SELECTs, in whatever output buffer holds it
+  builds : List ℕ → List ℕ → List ℕ → ℕ → Case
+  -- these wanted settings are refused as such that no valid page reaches, 10
+  misses : List ℕ → List ℕ → Case
 
 abbrev pub limits : Verdict → List ℕ
 limits v = v .code ∷ num (v .highcrit) ∷ num (v .highwarn) ∷ num (v .lowwarn) ∷ num (v .lowcrit) ∷ []
 
--- what the definitions give
-abbrev pub given : Case → List ℕ
-given (shows k s r n t b) = statusBytes k (shownBy k (settingsOf k s) r n t)
-given (judges k r n t v) = limits (verdictOf k false r n t)
-given (brings s p w) = num (valid s p) ∷ broughtTo s p
-given (tells s p) = num (wellFormed s) ∷ statusPage s
+-- what the definitions and the builder's promise say of a case
+abbrev pub Holds : Case → Type 0
+Holds (shows k s r n t b) = statusBytes k (shownBy k (settingsOf k s) r n t) ≡ b
+Holds (judges k r n t v) = limits (verdictOf k false r n t) ≡ v
+Holds (tells s p) = (wellFormed s ≡ true) × (statusPage s ≡ p)
+Holds (builds s w p n) = (out : List ℕ) → Promised s w out (builtOf p n out) (leftBy (builtOf p n out) p out)
+Holds (misses s w) = (out : List ℕ) → Promised s w out (Refused Unreachable) out
 
--- what document 01 tells
-abbrev pub told : Case → List ℕ
-told (shows k s r n t b) = b
-told (judges k r n t v) = v
-told (brings s p w) = 1 ∷ w
-told (tells s p) = 1 ∷ p
+abbrev pub AllHold : List Case → Type 0
+AllHold [] = Unit {0}
+AllHold (c ∷ cs) = Holds c × AllHold cs
 
 -- no limit trips; the high critical one does; the high warning one does
 abbrev fine : List ℕ
@@ -121,17 +124,22 @@ table =
     -- fans of A: ON, SPEED 3, reading 120
     ∷ shows Cooling (on 0x23) 120 0 none (0x01 ∷ 0x00 ∷ 0x78 ∷ 0x23 ∷ [])
     -- wanted SPEED 5 for all, for the middle fan, for the first two
-    ∷ brings fansA (control asks silent silent silent) (on 0x25 ++ on 0x25 ++ on 0x25)
-    ∷ brings fansA (control silent silent asks silent) (on 0x23 ++ on 0x25 ++ on 0x23)
-    ∷ brings fansA (control silent asks asks silent) (on 0x25 ++ on 0x25 ++ on 0x23)
+    ∷ builds fansA (on 0x25 ++ on 0x25 ++ on 0x25) (control asks silent silent silent) 1
+    ∷ builds fansA (on 0x23 ++ on 0x25 ++ on 0x23) (control silent silent asks silent) 1
+    ∷ builds fansA (on 0x25 ++ on 0x25 ++ on 0x23) (control silent asks asks silent) 2
     -- stored speeds 3, 4, 5, wanted IDENT on all
-    ∷ brings (shelfA (fanAt (on 0x23) 120) (fanAt (on 0x24) 120) (fanAt (on 0x25) 120)) (control (0x80 ∷ 0x80 ∷ 0x00 ∷ 0x20 ∷ []) silent silent silent)
+    ∷ builds (shelfA (fanAt (on 0x23) 120) (fanAt (on 0x24) 120) (fanAt (on 0x25) 120))
     ((0x00 ∷ 0x80 ∷ 0x00 ∷ 0x23 ∷ []) ++ (0x00 ∷ 0x80 ∷ 0x00 ∷ 0x24 ∷ []) ++ (0x00 ∷ 0x80 ∷ 0x00 ∷ 0x25 ∷ []))
+    (control (0x80 ∷ 0x80 ∷ 0x00 ∷ 0x20 ∷ []) silent silent silent)
+    1
     -- only the first fan has SWAP, wanted cleared
-    ∷ brings (shelfA (fanAt (0x10 ∷ 0x00 ∷ 0x00 ∷ 0x23 ∷ []) 120) (fan 120) (fan 120)) (control silent (0x90 ∷ 0x00 ∷ 0x00 ∷ 0x20 ∷ []) silent silent)
-    (on 0x23 ++ on 0x23 ++ on 0x23)
+    ∷ builds (shelfA (fanAt (0x10 ∷ 0x00 ∷ 0x00 ∷ 0x23 ∷ []) 120) (fan 120) (fan 120)) (on 0x23 ++ on 0x23 ++ on 0x23)
+    (control silent (0x90 ∷ 0x00 ∷ 0x00 ∷ 0x20 ∷ []) silent silent)
+    1
     -- wanted equal to stored: no SELECT
-    ∷ brings fansA (control silent silent silent silent) (on 0x23 ++ on 0x23 ++ on 0x23)
+    ∷ builds fansA (on 0x23 ++ on 0x23 ++ on 0x23) (control silent silent silent silent) 0
+    -- wanted SWAP 1 over stored 0: refusal 10
+    ∷ misses fansA ((0x10 ∷ 0x00 ∷ 0x00 ∷ 0x23 ∷ []) ++ on 0x23 ++ on 0x23)
     -- a fan ON with reading 0: code 2
     ∷ shows Cooling (on 0x23) 0 0 none (0x02 ∷ 0x00 ∷ 0x00 ∷ 0x23 ∷ [])
     -- temperature byte 64 with high warning 64, and byte 65

@@ -1,4 +1,5 @@
-/* How long each call takes on a shelf of 64 elements: eight types, two of each kind, eight elements each. */
+/* How long each call takes on a shelf of 64 elements: eight types, two of each kind, eight elements each. The builder is also
+ * asked for what takes it longest: one type of 64 fans, each wanted otherwise than stored and than every other. */
 #include "ses.h"
 
 #include <stdio.h>
@@ -10,7 +11,8 @@ enum { TYPES = 8, EACH = 8, ROUNDS = 2000 };
 static uint8_t shelf[SES_CONFIGURATION_LENGTH + 16 * TYPES * EACH];
 static uint8_t page[512], again[512];
 static uint8_t control[8 + 4 * (TYPES + TYPES * EACH)], limits[sizeof control];
-static uint32_t length;
+static uint8_t fans[sizeof shelf], wanted[4 * TYPES * EACH];
+static uint32_t length, selects;
 static struct ses_status status;
 static struct ses_thresholds thresholds;
 
@@ -53,6 +55,39 @@ static void make_page(uint8_t *out, uint8_t code)
     }
 }
 
+static void make_fans(void)
+{
+    fans[40] = 1;
+    fans[44] = 0x03;
+    fans[45] = TYPES * EACH;
+    for (int j = 0; j < TYPES * EACH; j++)
+        fans[SES_CONFIGURATION_LENGTH + 16 * j + 3] = 0x27;
+}
+
+/* What the shelf has stored. */
+static void want_stored(void)
+{
+    for (int j = 0; j < TYPES * EACH; j++)
+        memcpy(wanted + 4 * j, shelf + SES_CONFIGURATION_LENGTH + 16 * j, 4);
+}
+
+static void want_ident(int elements)
+{
+    for (int j = 0; j < elements; j++)
+        wanted[4 * j + 1] = 0x80;
+}
+
+/* 64 records: PRDFAIL, DISABLED, IDENT, FAIL and ON in every way, each at the speeds 1 and 2. */
+static void want_all_different(void)
+{
+    for (int j = 0; j < TYPES * EACH; j++) {
+        uint8_t *record = wanted + 4 * j;
+        record[0] = (j & 3) << 5;
+        record[1] = (j >> 2 & 1) << 7;
+        record[3] = (j >> 3 & 3) << 5 | (1 + (j >> 5));
+    }
+}
+
 static double now(void)
 {
     struct timespec t;
@@ -88,6 +123,15 @@ int main(void)
     MEASURE("rewrite_thresholds", ses_rewrite_thresholds(shelf, c, &thresholds, again, out, &length));
     MEASURE("apply_control", ses_apply_control(shelf, n, control, sizeof control));
     MEASURE("apply_thresholds", ses_apply_thresholds(shelf, n, limits, sizeof limits));
+    want_stored();
+    MEASURE("build_control, as stored", ses_build_control(shelf, n, wanted, sizeof wanted, page, out, &length, &selects));
+    want_ident(1);
+    MEASURE("build_control, one", ses_build_control(shelf, n, wanted, sizeof wanted, page, out, &length, &selects));
+    want_ident(TYPES * EACH);
+    MEASURE("build_control, all alike", ses_build_control(shelf, n, wanted, sizeof wanted, page, out, &length, &selects));
+    make_fans();
+    want_all_different();
+    MEASURE("build_control, 64 fans", ses_build_control(fans, n, wanted, sizeof wanted, page, out, &length, &selects));
     if (failed)
         fprintf(stderr, "bench: a call was refused\n");
     return failed != 0;

@@ -1,11 +1,11 @@
 -- Settings and the four bytes that store them say the same, each way round, and a control element keeps them storable. Assumes nothing.
 use mathlib.Core.Path.{_≡_, refl, sym, _∙_}
-use mathlib.Core.Bool.{Bool, true, false, not}
+use mathlib.Core.Bool.{Bool, true, false}
 use mathlib.Core.List.{List, [], _∷_}
 use Prim.Native.Nat.{ℕ, _%_, _<_}
 use native.Mathlib.Omega.{arith}
 use lib.Dec.{eqb}
-use lib.ListN.{getD}
+use lib.ListN.{length, getD}
 use borrow.Author.Tests.{eqb-true, not-true}
 use Rattle.bits.specs.Choice.{pick}
 use Rattle.bits.specs.Bits.{bit, only, nibble, join}
@@ -14,7 +14,7 @@ use Rattle.bits.proofs.Halves.{flags-high, join-low, join-three, low-three, aga
 use Rattle.kinds.specs.declared.types.Kind.{Kind}
 use Rattle.kinds.specs.declared.types.Kind.the-variants.{Cooling, Temperature, Voltage, Current}
 use Rattle.kinds.specs.declared.settings.Settings.{Settings}
-use Rattle.kinds.specs.Settings.{fanSettings, sensorSettings, settingsOf, fanBytes, sensorBytes, settingsBytes, secondNamed, fourthNamed, speedFormed, settingsFormed}
+use Rattle.kinds.specs.Settings.{Layout, fan, sensor, layoutOf, fanSettings, sensorSettings, settingsOf, fanBytes, sensorBytes, settingsBytes, secondNamed, fourthNamed, speedFormed, settingsFormed}
 use Rattle.kinds.specs.Control.{asking, speedAfter, acted}
 
 -- ON and SPEED, which fans alone have, are as a sensor's bytes say them
@@ -56,21 +56,6 @@ sensor-back s m l e h =
       speed = sym (h .1) i;
     }
 
--- stored settings are read back
-pub settings-back : (k : Kind) (s : Settings) → Storable k s → settingsOf k (settingsBytes k s) ≡ s
-unfolding settingsOf settingsBytes
-settings-back Cooling s h = fan-back s 0 0 0 false h
-settings-back Temperature s h = sensor-back s 0 0 (0 ∷ 0 ∷ []) h
-settings-back Voltage s h = sensor-back s 0 0 (0 ∷ 0 ∷ []) h
-settings-back Current s h = sensor-back s 0 0 (0 ∷ 0 ∷ []) h
-
-pub settings-storable : (k : Kind) (e : List ℕ) → Storable k (settingsOf k e)
-unfolding settingsOf
-settings-storable Cooling e = omega arith
-settings-storable Temperature e = (refl, refl)
-settings-storable Voltage e = (refl, refl)
-settings-storable Current e = (refl, refl)
-
 pub four : {a b c d p q r s : ℕ} → a ≡ p → b ≡ q → c ≡ r → d ≡ s → _≡_ {A = List ℕ} (a ∷ b ∷ c ∷ d ∷ []) (p ∷ q ∷ r ∷ s ∷ [])
 four x y z w = λ i. x i ∷ y i ∷ z i ∷ w i ∷ []
 
@@ -96,30 +81,6 @@ module _ (a b c d : ℕ) (ha : a < 256) (hb : b < 256) (hd : d < 256) (f : only 
       → sensorBytes (sensorSettings (a ∷ b ∷ c ∷ d ∷ [])) ≡ a ∷ b ∷ c ∷ d ∷ []
   sensor-again y z w = four (first-again a ha f) (ident-fail-again b hb y) (sym (eqb-true c 0 z)) (sym (eqb-true d 0 w))
 
-  pub kind-again : (k : Kind) → secondNamed k b ≡ true → eqb c 0 ≡ true → fourthNamed k d ≡ true
-      → settingsBytes k (settingsOf k (a ∷ b ∷ c ∷ d ∷ [])) ≡ a ∷ b ∷ c ∷ d ∷ []
-  unfolding settingsBytes settingsOf secondNamed fourthNamed
-  kind-again Cooling y z w = fan-again y z w
-  kind-again Temperature y z w = sensor-again y z w
-  kind-again Voltage y z w = sensor-again y z w
-  kind-again Current y z w = sensor-again y z w
-
--- what settings that a type may have are tested for
-module _ (k : Kind) (e : List ℕ) (t : settingsFormed k e ≡ true) where
-  pub in-settings : (only (6 ∷ 5 ∷ 4 ∷ []) (getD e 0 0) ≡ true)
-      × (secondNamed k (getD e 1 0) ≡ true)
-      × (eqb (getD e 2 0) 0 ≡ true)
-      × (fourthNamed k (getD e 3 0) ≡ true)
-      × (speedFormed k e ≡ true)
-  unfolding settingsFormed
-  in-settings = and-five (only (6 ∷ 5 ∷ 4 ∷ []) (getD e 0 0)) (secondNamed k (getD e 1 0)) (eqb (getD e 2 0) 0) (fourthNamed k (getD e 3 0)) (speedFormed k e) t
-
--- four bytes that are settings of the type are those that store what they say
-pub settings-again : (k : Kind) (a b c d : ℕ) → a < 256 → b < 256 → c < 256 → d < 256 → settingsFormed k (a ∷ b ∷ c ∷ d ∷ []) ≡ true
-    → settingsBytes k (settingsOf k (a ∷ b ∷ c ∷ d ∷ [])) ≡ a ∷ b ∷ c ∷ d ∷ []
-settings-again k a b c d ha hb hc hd t =
-    let h = in-settings k (a ∷ b ∷ c ∷ d ∷ []) t in kind-again a b c d ha hb hd (h .0) k (h .1) (h .2) (h .3)
-
 speed-small : (a b : ℕ) → a < 8 → b < 8 → speedAfter a b < 8
 speed-small a b h l = go (eqb a 0)
   where
@@ -136,12 +97,6 @@ speed-kept a b h = go (eqb a 0) refl
     go : (t : Bool) → eqb a 0 ≡ t → eqb (pick t b a) 0 ≡ false
     go true e = h
     go false e = e
-
-pub asked-storable : (k : Kind) (r s : Settings) → Storable k r → Storable k s → Storable k (acted (asking r) s)
-asked-storable Cooling r s h l = speed-small (r .speed) (s .speed) h l
-asked-storable Temperature r s h l = (h .0, speed-none (r .speed) (s .speed) (h .1) (l .1))
-asked-storable Voltage r s h l = (h .0, speed-none (r .speed) (s .speed) (h .1) (l .1))
-asked-storable Current r s h l = (h .0, speed-none (r .speed) (s .speed) (h .1) (l .1))
 
 -- the bytes that flags and a speed make have no other bit
 first-only : (a b c : Bool) → only (6 ∷ 5 ∷ 4 ∷ []) (join (nibble false a b c) 0) ≡ true
@@ -163,49 +118,125 @@ speed-only f o n =
     let h = flags-high false f o false (n % 8) in
     let l = join-low (nibble false f o false) (n % 8) in rw (h .0, h .3, l .0, low-three n)
 
-pub first-clear : (k : Kind) (s : Settings) → only (6 ∷ 5 ∷ 4 ∷ []) (getD (settingsBytes k s) 0 0) ≡ true
-unfolding settingsBytes
-first-clear Cooling s = first-only (s .prdfail) (s .disabled) (s .swap)
-first-clear Temperature s = first-only (s .prdfail) (s .disabled) (s .swap)
-first-clear Voltage s = first-only (s .prdfail) (s .disabled) (s .swap)
-first-clear Current s = first-only (s .prdfail) (s .disabled) (s .swap)
-
-pub second-named : (k : Kind) (s : Settings) → secondNamed k (getD (settingsBytes k s) 1 0) ≡ true
-unfolding settingsBytes secondNamed
-second-named Cooling s = ident-only (s .ident)
-second-named Temperature s = ident-fail-only (s .ident) (s .fail)
-second-named Voltage s = ident-fail-only (s .ident) (s .fail)
-second-named Current s = ident-fail-only (s .ident) (s .fail)
-
-pub third-none : (k : Kind) (s : Settings) → eqb (getD (settingsBytes k s) 2 0) 0 ≡ true
-unfolding settingsBytes
-third-none Cooling s = refl
-third-none Temperature s = refl
-third-none Voltage s = refl
-third-none Current s = refl
-
-pub fourth-named : (k : Kind) (s : Settings) → fourthNamed k (getD (settingsBytes k s) 3 0) ≡ true
-unfolding settingsBytes fourthNamed
-fourth-named Cooling s = speed-only (s .fail) (s .on) (s .speed)
-fourth-named Temperature s = refl
-fourth-named Voltage s = refl
-fourth-named Current s = refl
-
-acted-speed : (k : Kind) (r : Settings) (e : List ℕ) → Storable k r → speedFormed k e ≡ true
-    → speedFormed k (settingsBytes k (acted (asking r) (settingsOf k e))) ≡ true
-unfolding settingsBytes speedFormed
-acted-speed Cooling r e h t =
-    let s = settingsOf Cooling e in
+-- a fan that may run is not stopped
+fan-moves : (r : Settings) (e : List ℕ) → r .speed < 8 → fan .speed e ≡ true → fan .speed (fanBytes (acted (asking r) (fanSettings e))) ≡ true
+fan-moves r e h t =
+    let s = fanSettings e in
     let x = acted (asking r) s in
-    let l : x .speed < 8 = asked-storable Cooling r s h (settings-storable Cooling e) in
+    let l : x .speed < 8 = speed-small (r .speed) (s .speed) h (omega arith) in
     let n : join (nibble false (x .fail) (x .on) false) (x .speed % 8) % 8 ≡ x .speed = join-three _ (x .speed) ∙ omega arith in
-    rw (n, speed-kept (r .speed) (s .speed) (nonzero t))
-  where
-    nonzero : not (eqb (getD e 3 0 % 8) 0) ≡ true → eqb (settingsOf Cooling e .speed) 0 ≡ false
-    nonzero t = unfold settingsOf in not-true (eqb (getD e 3 0 % 8) 0) t
-acted-speed Temperature r e h t = refl
-acted-speed Voltage r e h t = refl
-acted-speed Current r e h t = refl
+    rw (n, speed-kept (r .speed) (s .speed) (not-true (eqb (getD e 3 0 % 8) 0) t))
+
+-- what a layout keeps to, over the settings S that it has a place for
+module _ (l : Layout) (S : Settings → Type 0) where
+  pub record Sound : Type 0 where
+    -- stored settings are read back, and what is read can be stored
+    pub back : (s : Settings) → S s → l .says (l .stores s) ≡ s
+    pub storable : (e : List ℕ) → S (l .says e)
+    -- four bytes with no bit but the named ones are stored again as they were
+    pub again : (a b c d : ℕ) → a < 256 → b < 256 → d < 256 → only (6 ∷ 5 ∷ 4 ∷ []) a ≡ true → l .second b ≡ true → eqb c 0 ≡ true → l .fourth d ≡ true
+        → l .stores (l .says (a ∷ b ∷ c ∷ d ∷ [])) ≡ a ∷ b ∷ c ∷ d ∷ []
+    -- stored bytes are four, with no bit but the named ones
+    pub size : (s : Settings) → length (l .stores s) ≡ 4
+    pub first : (s : Settings) → only (6 ∷ 5 ∷ 4 ∷ []) (getD (l .stores s) 0 0) ≡ true
+    pub second : (s : Settings) → l .second (getD (l .stores s) 1 0) ≡ true
+    pub third : (s : Settings) → eqb (getD (l .stores s) 2 0) 0 ≡ true
+    pub fourth : (s : Settings) → l .fourth (getD (l .stores s) 3 0) ≡ true
+    -- what a control element makes of settings can be stored, with a speed that the type may have
+    pub acts : (r s : Settings) → S r → S s → S (acted (asking r) s)
+    pub moves : (r : Settings) (e : List ℕ) → S r → l .speed e ≡ true → l .speed (l .stores (acted (asking r) (l .says e))) ≡ true
+
+fan-sound : Sound fan (λ s. s .speed < 8)
+fan-sound = record {
+  back = λ s h. fan-back s 0 0 0 false h;
+  storable = λ e. omega arith;
+  again = fan-again;
+  size = λ s. refl;
+  first = λ s. first-only (s .prdfail) (s .disabled) (s .swap);
+  second = λ s. ident-only (s .ident);
+  third = λ s. refl;
+  fourth = λ s. speed-only (s .fail) (s .on) (s .speed);
+  acts = λ r s. speed-small (r .speed) (s .speed);
+  moves = fan-moves;
+}
+
+sensor-sound : Sound sensor Fanless
+sensor-sound = record {
+  back = λ s h. sensor-back s 0 0 (0 ∷ 0 ∷ []) h;
+  storable = λ e. (refl, refl);
+  again = sensor-again;
+  size = λ s. refl;
+  first = λ s. first-only (s .prdfail) (s .disabled) (s .swap);
+  second = λ s. ident-fail-only (s .ident) (s .fail);
+  third = λ s. refl;
+  fourth = λ s. refl;
+  acts = λ r s h l. (h .0, speed-none (r .speed) (s .speed) (h .1) (l .1));
+  moves = λ r e h t. refl;
+}
+
+sound : (k : Kind) → Sound (layoutOf k) (Storable k)
+sound Cooling = fan-sound
+sound Temperature = sensor-sound
+sound Voltage = sensor-sound
+sound Current = sensor-sound
+
+-- the same of a type
+module _ (k : Kind) where
+  pub settings-back : (s : Settings) → Storable k s → settingsOf k (settingsBytes k s) ≡ s
+  unfolding settingsOf settingsBytes
+  settings-back = sound k .back
+
+  pub settings-storable : (e : List ℕ) → Storable k (settingsOf k e)
+  unfolding settingsOf
+  settings-storable = sound k .storable
+
+  pub kind-again : (a b c d : ℕ) → a < 256 → b < 256 → d < 256 → only (6 ∷ 5 ∷ 4 ∷ []) a ≡ true → secondNamed k b ≡ true → eqb c 0 ≡ true → fourthNamed k d ≡ true
+      → settingsBytes k (settingsOf k (a ∷ b ∷ c ∷ d ∷ [])) ≡ a ∷ b ∷ c ∷ d ∷ []
+  unfolding settingsBytes settingsOf secondNamed fourthNamed
+  kind-again = sound k .again
+
+  pub length-bytes : (s : Settings) → length (settingsBytes k s) ≡ 4
+  unfolding settingsBytes
+  length-bytes = sound k .size
+
+  pub first-clear : (s : Settings) → only (6 ∷ 5 ∷ 4 ∷ []) (getD (settingsBytes k s) 0 0) ≡ true
+  unfolding settingsBytes
+  first-clear = sound k .first
+
+  pub second-named : (s : Settings) → secondNamed k (getD (settingsBytes k s) 1 0) ≡ true
+  unfolding settingsBytes secondNamed
+  second-named = sound k .second
+
+  pub third-none : (s : Settings) → eqb (getD (settingsBytes k s) 2 0) 0 ≡ true
+  unfolding settingsBytes
+  third-none = sound k .third
+
+  pub fourth-named : (s : Settings) → fourthNamed k (getD (settingsBytes k s) 3 0) ≡ true
+  unfolding settingsBytes fourthNamed
+  fourth-named = sound k .fourth
+
+  pub asked-storable : (r s : Settings) → Storable k r → Storable k s → Storable k (acted (asking r) s)
+  asked-storable = sound k .acts
+
+  acted-speed : (r : Settings) (e : List ℕ) → Storable k r → speedFormed k e ≡ true → speedFormed k (settingsBytes k (acted (asking r) (settingsOf k e))) ≡ true
+  unfolding settingsBytes settingsOf speedFormed
+  acted-speed = sound k .moves
+
+-- what settings that a type may have are tested for
+module _ (k : Kind) (e : List ℕ) (t : settingsFormed k e ≡ true) where
+  pub in-settings : (only (6 ∷ 5 ∷ 4 ∷ []) (getD e 0 0) ≡ true)
+      × (secondNamed k (getD e 1 0) ≡ true)
+      × (eqb (getD e 2 0) 0 ≡ true)
+      × (fourthNamed k (getD e 3 0) ≡ true)
+      × (speedFormed k e ≡ true)
+  unfolding settingsFormed
+  in-settings = and-five (only (6 ∷ 5 ∷ 4 ∷ []) (getD e 0 0)) (secondNamed k (getD e 1 0)) (eqb (getD e 2 0) 0) (fourthNamed k (getD e 3 0)) (speedFormed k e) t
+
+-- four bytes that are settings of the type are those that store what they say
+pub settings-again : (k : Kind) (a b c d : ℕ) → a < 256 → b < 256 → c < 256 → d < 256 → settingsFormed k (a ∷ b ∷ c ∷ d ∷ []) ≡ true
+    → settingsBytes k (settingsOf k (a ∷ b ∷ c ∷ d ∷ [])) ≡ a ∷ b ∷ c ∷ d ∷ []
+settings-again k a b c d ha hb hc hd t =
+    let h = in-settings k (a ∷ b ∷ c ∷ d ∷ []) t in kind-again k a b c d ha hb hd (h .0) (h .1) (h .2) (h .3)
 
 -- what a selected control element makes of settings that a type may have are again such
 pub acted-formed : (k : Kind) (r : Settings) (e : List ℕ) → Storable k r → settingsFormed k e ≡ true

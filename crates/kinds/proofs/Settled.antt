@@ -8,12 +8,11 @@ use lib.ListN.{length}
 use Rattle.bits.specs.Choice.{pick}
 use Rattle.bits.proofs.Logic.{and-left}
 use Rattle.kinds.specs.declared.types.Kind.{Kind}
-use Rattle.kinds.specs.declared.types.Kind.the-variants.{Cooling, Temperature, Voltage, Current}
 use Rattle.kinds.specs.declared.settings.Settings.{Settings}
 use Rattle.kinds.specs.declared.control.Control.{Control}
 use Rattle.kinds.specs.Settings.{settingsOf, settingsBytes, settingsFormed}
 use Rattle.kinds.specs.Control.{selected, unselected, asking, controlOf, chosen, speedAfter, acted, settled}
-use Rattle.kinds.proofs.Back.{Storable, settings-back, settings-storable, asked-storable, acted-formed}
+use Rattle.kinds.proofs.Back.{Storable, length-bytes, settings-back, settings-storable, asked-storable, acted-formed}
 
 swap-twice : (s r : Bool) → (s && not r) && not r ≡ s && not r
 swap-twice true true = refl
@@ -40,13 +39,6 @@ acted-twice c s =
       on = c .on;
       speed = v i;
     }
-
-pub length-bytes : (k : Kind) (s : Settings) → length (settingsBytes k s) ≡ 4
-unfolding settingsBytes
-length-bytes Cooling s = refl
-length-bytes Temperature s = refl
-length-bytes Voltage s = refl
-length-bytes Current s = refl
 
 pub settled-length : (k : Kind) (c : Control) (e : List ℕ) → length e ≡ 4 → length (settled k c e) ≡ 4
 unfolding settled

@@ -30,12 +30,6 @@ fanSettings e = settingsWith e (bit 6 (getD e 3 0)) (bit 5 (getD e 3 0)) (getD e
 abbrev pub sensorSettings : List ℕ → Settings
 sensorSettings e = settingsWith e (bit 6 (getD e 1 0)) false 0
 
-unfoldable pub settingsOf : Kind → List ℕ → Settings
-settingsOf Cooling e = fanSettings e
-settingsOf Temperature e = sensorSettings e
-settingsOf Voltage e = sensorSettings e
-settingsOf Current e = sensorSettings e
-
 -- the same the other way round
 abbrev pub fanBytes : Settings → List ℕ
 fanBytes s =
@@ -53,31 +47,54 @@ sensorBytes s =
     ∷ 0
     ∷ []
 
-unfoldable pub settingsBytes : Kind → Settings → List ℕ
-settingsBytes Cooling s = fanBytes s
-settingsBytes Temperature s = sensorBytes s
-settingsBytes Voltage s = sensorBytes s
-settingsBytes Current s = sensorBytes s
-
--- bytes 1 and 3 have no bit set but those that the type's control element names; in byte 2 it names none
-unfoldable pub secondNamed : Kind → ℕ → Bool
-secondNamed Cooling b = only (7 ∷ []) b
-secondNamed Temperature b = only (7 ∷ 6 ∷ []) b
-secondNamed Voltage b = only (7 ∷ 6 ∷ []) b
-secondNamed Current b = only (7 ∷ 6 ∷ []) b
-
-unfoldable pub fourthNamed : Kind → ℕ → Bool
-fourthNamed Cooling d = only (6 ∷ 5 ∷ 2 ∷ 1 ∷ 0 ∷ []) d
-fourthNamed Temperature d = eqb d 0
-fourthNamed Voltage d = eqb d 0
-fourthNamed Current d = eqb d 0
+-- how a type lays its settings out: what four bytes say, and the bytes that say it; that bytes 1 and 3 have no bit set but those that
+-- its control element names (in byte 2 none does); that the speed is one it may have
+pub record Layout : Type 0 where
+  pub says : List ℕ → Settings
+  pub stores : Settings → List ℕ
+  pub second : ℕ → Bool
+  pub fourth : ℕ → Bool
+  pub speed : List ℕ → Bool
 
 -- a fan's SPEED is 1 to 7
+abbrev pub fan : Layout
+fan = record {
+  says = fanSettings;
+  stores = fanBytes;
+  second = only (7 ∷ []);
+  fourth = only (6 ∷ 5 ∷ 2 ∷ 1 ∷ 0 ∷ []);
+  speed = λ e. not (eqb (getD e 3 0 % 8) 0);
+}
+
+abbrev pub sensor : Layout
+sensor = record {
+  says = sensorSettings;
+  stores = sensorBytes;
+  second = only (7 ∷ 6 ∷ []);
+  fourth = λ d. eqb d 0;
+  speed = λ e. true;
+}
+
+abbrev pub layoutOf : Kind → Layout
+layoutOf Cooling = fan
+layoutOf Temperature = sensor
+layoutOf Voltage = sensor
+layoutOf Current = sensor
+
+unfoldable pub settingsOf : Kind → List ℕ → Settings
+settingsOf k e = layoutOf k .says e
+
+unfoldable pub settingsBytes : Kind → Settings → List ℕ
+settingsBytes k s = layoutOf k .stores s
+
+unfoldable pub secondNamed : Kind → ℕ → Bool
+secondNamed k b = layoutOf k .second b
+
+unfoldable pub fourthNamed : Kind → ℕ → Bool
+fourthNamed k d = layoutOf k .fourth d
+
 unfoldable pub speedFormed : Kind → List ℕ → Bool
-speedFormed Cooling e = not (eqb (getD e 3 0 % 8) 0)
-speedFormed Temperature e = true
-speedFormed Voltage e = true
-speedFormed Current e = true
+speedFormed k e = layoutOf k .speed e
 
 -- the four bytes are settings that the type may have
 unfoldable pub settingsFormed : Kind → List ℕ → Bool

@@ -2,55 +2,28 @@
 use mathlib.Core.Path.{_≡_, refl, sym, ap, _∙_}
 use mathlib.Core.Bool.{Bool, true, false, not, _&&_}
 use mathlib.Core.List.{List, [], _∷_}
-use mathlib.Core.Logic.{_⊎_, inl, inr, ⊎-elim}
-use Prim.Native.Nat.{ℕ, zero, suc, _+_, _%_, _<_, _≤_}
-use native.Mathlib.Nat.{eq-or-lt-of-le}
+use mathlib.Core.Logic.{inl, inr}
+use Prim.Native.Nat.{ℕ, zero, suc, _<_, _≤_}
 use native.Mathlib.Omega.{arith}
 use lib.Dec.{eqb}
 use lib.ListN.{length, getD}
-use borrow.Author.Tests.{eqb-true, eqb-false, eq-eqb, not-true}
+use borrow.Author.Tests.{eqb-true, eqb-false, eq-eqb}
 use Rattle.bits.specs.Choice.{pick}
-use Rattle.bits.specs.Bits.{num, nibble, join}
+use Rattle.bits.specs.Bits.{num}
 use Rattle.bits.proofs.Logic.{never, by-case, and-four}
 use Rattle.bits.proofs.Rows.{as-four}
 use Rattle.order.specs.Order.{InOrder, NotAfter}
 use Rattle.kinds.specs.declared.types.Kind.{Kind}
-use Rattle.kinds.specs.declared.types.Kind.the-variants.{Cooling, Temperature, Voltage, Current}
 use Rattle.kinds.specs.declared.settings.Settings.{Settings}
 use Rattle.kinds.specs.declared.control.Control.{Control}
-use Rattle.kinds.specs.Settings.{settingsOf, settingsBytes, speedFormed, settingsFormed}
+use Rattle.kinds.specs.Settings.{settingsOf, settingsBytes, settingsFormed}
 use Rattle.kinds.specs.Control.{selected, unselected, asking, controlOf, offending, chosen, speedAfter, acted, settled}
-use Rattle.kinds.proofs.Back.{Storable, four, settings-back, settings-again, settings-storable, asked-storable, in-settings}
+use Rattle.kinds.proofs.Back.{four, settings-back, settings-again, settings-storable, asked-storable, in-settings}
 use Rattle.kinds.proofs.Settled.{settled-length}
 use Rattle.wishes.specs.Wishes.{silent, alike, askBytes, requestFor, clearing, turning, own, brings, one}
-use Rattle.wishes.proofs.Asked.{low-half}
+use Rattle.wishes.proofs.Layouts.{ask-order, storable-small, no-stop, request-storable}
 use Rattle.wishes.proofs.Asking.{Reaches, ask-again, request-reaches, request-is, reaches-it}
 use Rattle.wishes.proofs.Told.{ask-selected, ask-fine, ask-length, ask-small, ask-control, silent-fine}
-
--- the order of two requests for the same flags
-head-order : (p d a b : Bool) → (a ≡ true → b ≡ true)
-    → (128 + join (nibble false p d a) 0 < 128 + join (nibble false p d b) 0) ⊎ (128 + join (nibble false p d a) 0 ≡ 128 + join (nibble false p d b) 0)
-head-order p d true true h = inr refl
-head-order p d true false h = never (sym (h refl))
-head-order p d false true h = inl (omega (arith, low-half p d false, low-half p d true))
-head-order p d false false h = inr refl
-
-last-order : (h m n : ℕ) → m ≤ n → n < 8 → (join h (m % 8) < join h (n % 8)) ⊎ (join h (m % 8) ≡ join h (n % 8))
-last-order h m n l b = ⊎-elim (λ e. inr (ap (λ x. join h (x % 8)) e)) (λ (e : m < n). inl (omega arith)) (eq-or-lt-of-le l)
-
-four-order : (a b c d x y : ℕ) → (a < b) ⊎ (a ≡ b) → (x < y) ⊎ (x ≡ y) → InOrder (a ∷ c ∷ d ∷ x ∷ []) (b ∷ c ∷ d ∷ y ∷ [])
-four-order a b c d x y (inl h) k = inl h
-four-order a b c d x y (inr h) (inl k) = inr (h, inr (refl, inr (refl, inl k)))
-four-order a b c d x y (inr h) (inr k) = inr (h, inr (refl, inr (refl, inr (k, tt))))
-
-ask-order : (k : Kind) (w : Settings) (a b : Bool) (m n : ℕ) → (a ≡ true → b ≡ true) → m ≤ n → n < 8
-    → InOrder (askBytes k (requestFor w a m)) (askBytes k (requestFor w b n))
-unfolding askBytes settingsBytes
-ask-order Cooling w a b m n h l s =
-    four-order _ _ _ _ _ _ (head-order (w .prdfail) (w .disabled) a b h) (last-order (nibble false (w .fail) (w .on) false) m n l s)
-ask-order Temperature w a b m n h l s = four-order _ _ _ _ _ _ (head-order (w .prdfail) (w .disabled) a b h) (inr refl)
-ask-order Voltage w a b m n h l s = four-order _ _ _ _ _ _ (head-order (w .prdfail) (w .disabled) a b h) (inr refl)
-ask-order Current w a b m n h l s = four-order _ _ _ _ _ _ (head-order (w .prdfail) (w .disabled) a b h) (inr refl)
 
 -- four zeros come first
 zero-order : (a : ℕ) (p q : List ℕ) → InOrder p q → InOrder (0 ∷ p) (a ∷ q)
@@ -86,12 +59,6 @@ turning-needed s w r h = by-case (eqb s w) (λ e. rw e (omega arith)) (λ e. rw 
         by-case (eqb r 0) (λ t. absurd (eqb-false s w e (sym (none t) ∙ h)))
         (λ t. let q : w ≡ r = sym h ∙ other t in omega arith)
 
-storable-small : (k : Kind) (r : Settings) → Storable k r → r .speed < 8
-storable-small Cooling r h = h
-storable-small Temperature r h = omega (arith, h .1)
-storable-small Voltage r h = omega (arith, h .1)
-storable-small Current r h = omega (arith, h .1)
-
 -- a control element that a shelf takes
 abbrev pub Row : Kind → List ℕ → Type 0
 Row k c = (length c ≡ 4) × ((i : ℕ) → getD c i 0 < 256) × (offending k c ≡ 4)
@@ -107,26 +74,6 @@ turned s w h = by-case (eqb s w) (λ e. rw e (eqb-true s w e)) (λ e. rw e (by-c
   where
     stops : eqb s w ≡ false → eqb w 0 ≡ true → ⊥
     stops e t = let z = eqb-true w 0 t in eqb-false s w e (h z ∙ sym z)
-
--- no fan is wanted with speed 0
-no-stop : (k : Kind) (e w : List ℕ) → speedFormed k w ≡ true → settingsOf k w .speed ≡ 0 → settingsOf k e .speed ≡ 0
-unfolding speedFormed settingsOf
-no-stop Cooling e w h z = absurd (eqb-false _ 0 (not-true _ h) z)
-no-stop Temperature e w h z = refl
-no-stop Voltage e w h z = refl
-no-stop Current e w h z = refl
-
-turning-small : (s w n : ℕ) → w < n → turning s w < n
-turning-small s w n h = by-case (eqb s w) (λ e. rw e (omega arith)) (λ e. rw e h)
-
-turning-none : (s w : ℕ) → w ≡ 0 → turning s w ≡ 0
-turning-none s w h = by-case (eqb s w) (λ e. rw e) (λ e. rw e h)
-
-request-storable : (k : Kind) (s x : Settings) → Storable k x → Storable k (requestFor x (clearing s x) (turning (s .speed) (x .speed)))
-request-storable Cooling s x h = turning-small (s .speed) (x .speed) 8 h
-request-storable Temperature s x h = (h .0, turning-none (s .speed) (x .speed) (h .1))
-request-storable Voltage s x h = (h .0, turning-none (s .speed) (x .speed) (h .1))
-request-storable Current s x h = (h .0, turning-none (s .speed) (x .speed) (h .1))
 
 -- four bytes that are alike are the same
 pub alike-same : (a b : List ℕ) → length a ≡ 4 → length b ≡ 4 → alike a b ≡ true → a ≡ b

@@ -8,39 +8,17 @@ use lib.Bits.{bitOr}
 use lib.Dec.{eqb, leb, ltb}
 use lib.ListN.{getD}
 use borrow.Author.Tests.{eqb-true, eq-eqb, ne-eqb, lt-ltb, le-leb, lt-leb}
-use Rattle.bits.specs.Bits.{nibble, join}
 use Rattle.bits.specs.Numbers.{big}
 use Rattle.bits.specs.Places.{fourAt}
 use Rattle.bits.proofs.Logic.{byByteIf}
 use Rattle.kinds.specs.declared.types.Kind.{Kind}
-use Rattle.kinds.specs.declared.types.Kind.the-variants.{Cooling, Temperature, Voltage, Current}
 use Rattle.kinds.specs.declared.settings.Settings.{Settings}
 use Rattle.kinds.specs.declared.control.Control.{Control}
 use Rattle.kinds.specs.Settings.{settingsOf, settingsBytes}
 use Rattle.kinds.specs.Control.{acted, settled}
 use Rattle.wishes.specs.Wishes.{inReach, alike, silent, withSelect, askBytes, requestFor, clearing, turning, own, brings, one}
+use Rattle.wishes.proofs.Layouts.{first-small}
 use Rattle.wishes.specs.Parts.{tried, tries, sooner}
-
-pub low-half : (a b c : Bool) → nibble false a b c < 8
-low-half true true true = omega arith
-low-half true true false = omega arith
-low-half true false true = omega arith
-low-half true false false = omega arith
-low-half false true true = omega arith
-low-half false true false = omega arith
-low-half false false true = omega arith
-low-half false false false = omega arith
-
-first-low : (a b c : Bool) → join (nibble false a b c) 0 < 128
-first-low a b c = omega (arith, low-half a b c)
-
--- stored settings have bit 7 of byte 0 clear
-pub first-small : (k : Kind) (s : Settings) → getD (settingsBytes k s) 0 0 < 128
-unfolding settingsBytes
-first-small Cooling s = first-low (s .prdfail) (s .disabled) (s .swap)
-first-small Temperature s = first-low (s .prdfail) (s .disabled) (s .swap)
-first-small Voltage s = first-low (s .prdfail) (s .disabled) (s .swap)
-first-small Current s = first-low (s .prdfail) (s .disabled) (s .swap)
 
 or-select : (x : ℕ) → x < 128 → bitOr x 128 ≡ 128 + x
 or-select x h =

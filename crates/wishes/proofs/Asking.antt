@@ -7,46 +7,21 @@ use Prim.Native.Nat.{ℕ, _+_, _-_, _<_}
 use native.Mathlib.Omega.{arith}
 use lib.Dec.{eqb}
 use borrow.Author.Tests.{eqb-true}
-use Rattle.bits.specs.Choice.{allBelow}
-use Rattle.bits.specs.Bits.{bit, only}
-use Rattle.bits.proofs.Logic.{by-case, pick-yes, all-four, same, same-eq, implies, byByteIf}
+use Rattle.bits.specs.Bits.{only}
+use Rattle.bits.proofs.Logic.{by-case, pick-yes, all-four, byByteIf}
 use Rattle.kinds.specs.declared.types.Kind.{Kind}
-use Rattle.kinds.specs.declared.types.Kind.the-variants.{Cooling, Temperature, Voltage, Current}
 use Rattle.kinds.specs.declared.settings.Settings.{Settings}
-use Rattle.kinds.specs.Settings.{settingsWith, settingsOf, settingsBytes, secondNamed, fourthNamed}
+use Rattle.kinds.specs.Settings.{settingsOf, settingsBytes, secondNamed, fourthNamed}
 use Rattle.kinds.specs.Control.{selected, asking, offending, speedAfter, acted}
 use Rattle.wishes.specs.Wishes.{withSelect, askBytes, requestFor}
 use Rattle.kinds.proofs.Back.{kind-again}
-
--- a byte with bit 7 set and none of the low four
-abbrev pub heading : ℕ → Bool
-heading a = bit 7 a && only (7 ∷ 6 ∷ 5 ∷ 4 ∷ []) a
+use Rattle.wishes.proofs.Layouts.{heading, rest-same}
 
 head-rest : (a : ℕ) → a < 256 → heading a ≡ true → only (6 ∷ 5 ∷ 4 ∷ []) (a - 128) ≡ true
 head-rest = byByteIf heading (λ a. only (6 ∷ 5 ∷ 4 ∷ []) (a - 128)) refl
 
-head-bit : (i : ℕ) → allBelow (λ a. implies (heading a) (same (bit i a) (bit i (a - 128)))) 256 ≡ true
-    → (a : ℕ) → a < 256 → heading a ≡ true → bit i a ≡ bit i (a - 128)
-head-bit i t a h e = same-eq (bit i a) (bit i (a - 128)) (byByteIf heading (λ a. same (bit i a) (bit i (a - 128))) t a h e)
-
 head-high : (a : ℕ) → a < 256 → heading a ≡ true → 128 + (a - 128) ≡ a
 head-high a h e = eqb-true (128 + (a - 128)) a (byByteIf heading (λ a. eqb (128 + (a - 128)) a) refl a h e)
-
--- SELECT does not change what the other bits say
-with-same : (a b c d : ℕ) (f o : Bool) (n : ℕ) → a < 256 → heading a ≡ true
-    → settingsWith (a ∷ b ∷ c ∷ d ∷ []) f o n ≡ settingsWith ((a - 128) ∷ b ∷ c ∷ d ∷ []) f o n
-with-same a b c d f o n h e =
-    let x = head-bit 6 refl a h e in
-    let y = head-bit 5 refl a h e in
-    let z = head-bit 4 refl a h e in
-    λ i. record { prdfail = x i; disabled = y i; swap = z i; ident = bit 7 b; fail = f; on = o; speed = n }
-
-pub rest-same : (k : Kind) (a b c d : ℕ) → a < 256 → heading a ≡ true → settingsOf k (a ∷ b ∷ c ∷ d ∷ []) ≡ settingsOf k ((a - 128) ∷ b ∷ c ∷ d ∷ [])
-unfolding settingsOf
-rest-same Cooling a b c d h e = with-same a b c d _ _ _ h e
-rest-same Temperature a b c d h e = with-same a b c d _ _ _ h e
-rest-same Voltage a b c d h e = with-same a b c d _ _ _ h e
-rest-same Current a b c d h e = with-same a b c d _ _ _ h e
 
 -- a selected element without a reserved bit is the one that asks for what it says
 pub ask-again : (k : Kind) (a b c d : ℕ) → a < 256 → b < 256 → d < 256 → selected (a ∷ b ∷ c ∷ d ∷ []) ≡ true → offending k (a ∷ b ∷ c ∷ d ∷ []) ≡ 4
@@ -55,7 +30,7 @@ unfolding askBytes offending
 ask-again k a b c d ha hb hd t e =
     let h = all-four (only (7 ∷ 6 ∷ 5 ∷ 4 ∷ []) a) (secondNamed k b) (eqb c 0) (fourthNamed k d) (sym (pick-yes _ _ _ t) ∙ e) in
     let g : heading a ≡ true = rw (t, h .0) in
-    let r = kind-again (a - 128) b c d (omega arith) hb hd (head-rest a ha g) k (h .1) (h .2) (h .3) in
+    let r = kind-again k (a - 128) b c d (omega arith) hb hd (head-rest a ha g) (h .1) (h .2) (h .3) in
     ap (λ (s : Settings). withSelect (settingsBytes k s)) (rest-same k a b c d ha g)
     ∙ ap withSelect r
     ∙ ap (λ (x : ℕ). x ∷ b ∷ c ∷ d ∷ []) (head-high a ha g)

@@ -1,3 +1,4 @@
+pub mod Layouts
 pub mod Asked
 pub mod Asking
 pub mod Told

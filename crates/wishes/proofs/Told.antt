@@ -11,42 +11,18 @@ use Rattle.bits.specs.Bits.{bit, only}
 use Rattle.bits.proofs.Logic.{pick-yes, and-both, four-pass, byByteIf}
 use Rattle.bits.proofs.Rows.{as-four}
 use Rattle.kinds.specs.declared.types.Kind.{Kind}
-use Rattle.kinds.specs.declared.types.Kind.the-variants.{Cooling, Temperature, Voltage, Current}
 use Rattle.kinds.specs.declared.settings.Settings.{Settings}
-use Rattle.kinds.specs.Settings.{fanBytes, sensorBytes, settingsOf, settingsBytes}
+use Rattle.kinds.specs.Settings.{settingsOf, settingsBytes}
 use Rattle.kinds.specs.Control.{selected, unselected, asking, controlOf, offending}
-use Rattle.kinds.proofs.Back.{Storable, settings-back, first-clear, second-named, third-none, fourth-named}
-use Rattle.kinds.proofs.Settled.{length-bytes}
+use Rattle.kinds.proofs.Back.{Storable, length-bytes, settings-back, first-clear, second-named, third-none, fourth-named}
 use Rattle.wishes.specs.Wishes.{silent, askBytes}
-use Rattle.wishes.proofs.Asked.{first-small}
-use Rattle.wishes.proofs.Asking.{heading, rest-same}
+use Rattle.wishes.proofs.Layouts.{heading, first-small, stored-small, rest-same}
 
 head-only : (x : ℕ) → x < 256 → only (6 ∷ 5 ∷ 4 ∷ []) x ≡ true → only (7 ∷ 6 ∷ 5 ∷ 4 ∷ []) (128 + x) ≡ true
 head-only = byByteIf (only (6 ∷ 5 ∷ 4 ∷ [])) (λ x. only (7 ∷ 6 ∷ 5 ∷ 4 ∷ []) (128 + x)) refl
 
 head-selects : (x : ℕ) → x < 128 → bit 7 (128 + x) ≡ true
 head-selects x h = byByteIf (λ b. ltb b 128) (λ b. bit 7 (128 + b)) refl x (omega arith) (lt-ltb x 128 h)
-
-fan-small : (s : Settings) (i : ℕ) → getD (fanBytes s) i 0 < 256
-fan-small s zero = omega arith
-fan-small s (suc zero) = omega arith
-fan-small s (suc (suc zero)) = omega arith
-fan-small s (suc (suc (suc zero))) = omega arith
-fan-small s (suc (suc (suc (suc i)))) = omega arith
-
-sensor-small : (s : Settings) (i : ℕ) → getD (sensorBytes s) i 0 < 256
-sensor-small s zero = omega arith
-sensor-small s (suc zero) = omega arith
-sensor-small s (suc (suc zero)) = omega arith
-sensor-small s (suc (suc (suc zero))) = omega arith
-sensor-small s (suc (suc (suc (suc i)))) = omega arith
-
-stored-small : (k : Kind) (s : Settings) (i : ℕ) → getD (settingsBytes k s) i 0 < 256
-unfolding settingsBytes
-stored-small Cooling s i = fan-small s i
-stored-small Temperature s i = sensor-small s i
-stored-small Voltage s i = sensor-small s i
-stored-small Current s i = sensor-small s i
 
 module _ (k : Kind) (r : Settings) where
   head-only-at : only (7 ∷ 6 ∷ 5 ∷ 4 ∷ []) (128 + getD (settingsBytes k r) 0 0) ≡ true

@@ -15,16 +15,17 @@ use Rattle.pages.specs.declared.slots.Slot.{Slot}
 use Rattle.pages.specs.Slots.{slotsOf, slotType, slotAt}
 use Rattle.pages.specs.Header.{header}
 use Rattle.control.specs.Brought.{settingsIn}
+use Rattle.choice.specs.Choice.{storedFrom, wantedFrom}
 
 -- of type t: its kind, and what is stored and wanted of its element i
 abbrev pub typeKind : List ℕ → ℕ → Kind
 typeKind s t = kindOf (typeCode s t)
 
 abbrev pub storedIn : List ℕ → ℕ → ℕ → List ℕ
-storedIn s t i = settingsAt s (before s t + i)
+storedIn s t i = storedFrom s (before s t) i
 
 abbrev pub wantedIn : List ℕ → List ℕ → ℕ → ℕ → List ℕ
-wantedIn s w t i = settingsIn w (before s t + i)
+wantedIn s w t i = wantedFrom w (before s t) i
 
 -- its overall element
 unfoldable pub overallIn : List ℕ → List ℕ → ℕ → List ℕ

@@ -41,7 +41,8 @@ fn row(shelf: &[u8], wanted: &[u8], at: Slot, overall: [u8; 4]) -> [u8; 4]
     )
 }
 
-// Puts the first n slots, and tells their SELECTs.
+// Puts the first n slots, and tells their SELECTs. The overall element of a type is searched where the type starts, and carried on to
+// its elements: `over`, which takes a call's result by way of a variable.
 fn put_slots(shelf: &[u8], wanted: &[u8], out: &mut [u8], n: u16) -> u32
     ensures { λ r. ⌜ r ≡ selectsFor (now (shelf .entry)) (now (wanted .entry)) n ⌝ }
     ensures { λ _. ⌜ now (out .exit) ≡ slotsPut (rowFor (now (shelf .entry)) (now (wanted .entry))) (now (out .entry)) n ⌝ }

@@ -25,7 +25,7 @@ pub fn in_reach(kind: Kind, stored: [u8; 4], wanted: [u8; 4]) -> bool
 }
 
 // The selected element that asks for these settings.
-pub fn ask(kind: Kind, request: Settings) -> [u8; 4]
+fn ask(kind: Kind, request: Settings) -> [u8; 4]
     ensures { λ r. ⌜ r ≡ askBytes kind request ⌝ }
 {
     let e = request.bytes(kind);

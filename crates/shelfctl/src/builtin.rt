@@ -1,14 +1,17 @@
-// A shelf to show where no file is named, and a control page for it.
+// A shelf to show where no file is named.
 //
-// Their places are written out as docs/LAYOUT.md and the rules have them, and not taken from the crates that read them:
-// so the two are held against each other.
+// Its places are written out as docs/LAYOUT.md has them, and not taken from the crates that read them: so the two are
+// held against each other.
 ghost use Prim.Native.Nat.{_+_, _≤_};
 ghost use lib.ListN.{length};
 
 // 332 bytes, and 16 for each of ten elements.
 const LENGTH: usize = 492;
 
-// 8 bytes, and 4 for each of five types and ten elements.
+// Its wanted list: 4 bytes for each of ten elements.
+pub const WANTED_LENGTH: usize = 40;
+
+// Its control page: 8 bytes, and 4 for each of five types and ten elements.
 pub const CONTROL_LENGTH: usize = 68;
 
 pub fn shelf() -> [u8; LENGTH] {
@@ -78,16 +81,4 @@ fn put_rails(s: &mut [u8; LENGTH]) {
 fn put_loads(s: &mut [u8; LENGTH]) {
     put(s, 460, &[0x10, 0, 0, 0, 40, 20, 0, 0, 0xff, 0x83, 1, 0xf4]);
     put(s, 476, &[0x40, 0, 0, 0, 45, 15, 0, 0, 2, 0x1a, 1, 0xf4]);
-}
-
-// Page code, length less 4, generation code 7. Behind the first type's overall element, at 8, stands element 0: SELECT,
-// ON and speed code 7. All other elements are zero.
-pub fn full_speed() -> [u8; CONTROL_LENGTH] {
-    let mut p = [0u8; CONTROL_LENGTH];
-    p[0] = 0x02;
-    p[3] = 0x40;
-    p[7] = 7;
-    p[12] = 0x80;
-    p[15] = 0x27;
-    p
 }

@@ -1,7 +1,8 @@
 // The file that an argument names, read into a lent buffer.
 //
-// Callers lend 4,096 bytes, more than any shelf and any page that acts has. So what follows in a longer file changes no
-// answer: as a shelf it is refused by its length, 1; as a page too, 4, unless the shelf or byte 0 is refused before.
+// Callers lend 4,096 bytes, more than any shelf, page that acts or wanted list has. So what follows in a longer file
+// changes no answer: as a shelf it is refused by its length, 1; as a page too, 4, and as a wanted list, 9, unless the
+// shelf or a page's byte 0 is refused before.
 ghost use Rattle.io.specs.Counts.{Counts};
 
 // Whether the file could be read, and how many bytes of it stand at the start of the buffer.

@@ -1,24 +1,30 @@
-// Shows what a shelf block holds, writes its pages, applies a page to it, or says why it cannot: a built-in block, or
-// one that is read from a file. It writes no file.
+// Shows what a shelf block holds, writes its pages, builds or applies a page for it, or says why it cannot: a built-in
+// block, or one that is read from a file. It writes no file.
 //
 // Every answer goes to standard output, a refusal too. What keeps a file from being read goes to standard error.
 mod answer;
 mod applying;
+mod building;
 mod builtin;
+mod changes;
 mod files;
+mod full_speed;
 mod page;
+mod settings;
 
 use crate::applying::Act;
 use crate::page::Page;
 use libc::STDERR_FILENO;
 
-// Which argument PAGE is, of a command that takes one.
-const PAGE_PLACE: u8 = 2;
+// Which argument PAGE or WANTED is, of a command that takes one.
+const INPUT_PLACE: u8 = 2;
 
 enum Command {
     Show,
     Check,
     Page(Page),
+    Settings,
+    Build,
     Apply(Act),
 }
 
@@ -56,6 +62,12 @@ fn first_given() -> Given {
     if first_is(b"thresholds") {
         return Given::Command(Command::Page(Page::Thresholds));
     }
+    if first_is(b"settings") {
+        return Given::Command(Command::Settings);
+    }
+    if first_is(b"build-control") {
+        return Given::Command(Command::Build);
+    }
     if first_is(b"apply-control") {
         return Given::Command(Command::Apply(Act::Control));
     }
@@ -76,7 +88,7 @@ fn show_builtin() {
     let shelf = builtin::shelf();
     tell_contents(&shelf);
     page::tell_all(&shelf);
-    applying::show_full_speed();
+    full_speed::show();
 }
 
 fn run(command: Command) {
@@ -94,15 +106,15 @@ fn run(command: Command) {
 // Which argument FILE is. The program is argument 0, its command argument 1.
 fn file_place(command: Command) -> u8 {
     match command {
-        Command::Show | Command::Check | Command::Page(_) => 2,
-        Command::Apply(_) => PAGE_PLACE + 1,
+        Command::Show | Command::Check | Command::Page(_) | Command::Settings => 2,
+        Command::Build | Command::Apply(_) => INPUT_PLACE + 1,
     }
 }
 
 fn without_file(command: Command) {
     match command {
         Command::Show | Command::Check => say_wrong_number(),
-        Command::Page(_) | Command::Apply(_) => {
+        Command::Page(_) | Command::Settings | Command::Build | Command::Apply(_) => {
             let mut shelf = builtin::shelf();
             tell(command, &mut shelf);
         }
@@ -127,6 +139,8 @@ fn tell(command: Command, shelf: &mut [u8]) {
             tell_checked(shelf);
         }
         Command::Page(page) => page::tell(page, shelf),
+        Command::Settings => settings::tell(shelf),
+        Command::Build => build(shelf),
         Command::Apply(act) => apply(act, shelf),
     }
 }
@@ -143,9 +157,20 @@ fn tell_checked(shelf: &[u8]) -> bool {
     answer::tell(answer, b"shelf: well formed\n")
 }
 
+fn build(shelf: &[u8]) {
+    let mut wanted = io::buffer();
+    let loaded = files::load(INPUT_PLACE, b"WANTED", &mut wanted);
+    if !loaded.is_done {
+        say_usage();
+        return;
+    }
+    let n = loaded.bytes;
+    building::tell(shelf, &wanted[..n]);
+}
+
 fn apply(act: Act, shelf: &mut [u8]) {
     let mut page = io::buffer();
-    let loaded = files::load(PAGE_PLACE, b"PAGE", &mut page);
+    let loaded = files::load(INPUT_PLACE, b"PAGE", &mut page);
     if !loaded.is_done {
         say_usage();
         return;
@@ -170,6 +195,10 @@ fn say_usage() {
     );
     io::write_all(
         STDERR_FILENO,
-        b"                 apply-control PAGE [FILE] | apply-thresholds PAGE [FILE]]\n",
+        b"                 settings [FILE] | build-control WANTED [FILE] | apply-control PAGE [FILE] |\n",
+    );
+    io::write_all(
+        STDERR_FILENO,
+        b"                 apply-thresholds PAGE [FILE]]\n",
     );
 }

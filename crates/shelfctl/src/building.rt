@@ -1,0 +1,29 @@
+// The control page for a wanted list.
+use builder::built::Built;
+use shelf::limits;
+
+const MOST_BYTES: usize = 8 + 4 * (limits::MOST_TYPES + limits::MOST_ELEMENTS) as usize;
+
+pub fn tell(shelf: &[u8], wanted: &[u8]) {
+    let mut page = [0u8; MOST_BYTES];
+    tell_into(shelf, wanted, &mut page);
+}
+
+// The page is left in the lent buffer.
+pub fn tell_into(shelf: &[u8], wanted: &[u8], page: &mut [u8]) {
+    let built = ses::build_control(shelf, wanted, page);
+    match built {
+        Built::Page { bytes, selects } => {
+            say_head(bytes, selects);
+            say::hex_lines(page, bytes);
+        }
+        Built::Refused(r) => say::refusal::tell(r),
+    }
+}
+
+fn say_head(bytes: u32, selects: u32) {
+    say::text(b"control page");
+    say::count(bytes as u64, b" byte");
+    say::count(selects as u64, b" SELECT");
+    say::text(b"\n");
+}

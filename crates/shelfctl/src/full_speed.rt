@@ -1,0 +1,39 @@
+// The built-in shelf, brought to full speed by the page that is built for it.
+use crate::applying;
+use crate::applying::Act;
+use crate::building;
+use crate::builtin;
+use crate::changes;
+use crate::page;
+use crate::page::Page;
+use crate::settings;
+
+// What is wanted and the page for it, between the status before and after; then the fans in words, and which bytes of
+// the block changed.
+pub fn show() {
+    let mut shelf = builtin::shelf();
+    let before = shelf;
+    page::tell_headed(b"status page before", Page::Status, &shelf);
+    bring(&mut shelf);
+    page::tell_headed(b"status page after", Page::Status, &shelf);
+    showing::show_type(&shelf, 0);
+    changes::tell(&before, &shelf);
+}
+
+fn bring(shelf: &mut [u8]) {
+    let wanted = wanted_list(shelf);
+    let n = builtin::WANTED_LENGTH as u32;
+    page::say_head(b"wanted settings: element 0 to full speed", n);
+    say::hex_lines(&wanted, n);
+    let mut page = [0u8; builtin::CONTROL_LENGTH];
+    building::tell_into(shelf, &wanted, &mut page);
+    applying::tell_answer(Act::Control, shelf, &page);
+}
+
+// The stored settings, but for element 0: ON and SPEED 7.
+fn wanted_list(shelf: &[u8]) -> [u8; builtin::WANTED_LENGTH] {
+    let mut list = [0u8; builtin::WANTED_LENGTH];
+    settings::put(shelf, &mut list);
+    list[3] = 0x27;
+    list
+}

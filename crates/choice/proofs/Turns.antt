@@ -19,7 +19,7 @@ use Rattle.wishes.proofs.Part.{cost-is, tries-do, best-again, best-none}
 use Rattle.shelf.specs.Elements.{settingsAt}
 use Rattle.pages.specs.declared.slots.Slot.{Slot}
 use Rattle.control.specs.Brought.{settingsIn}
-use Rattle.choice.specs.declared.Best.{Best}
+use Rattle.choice.specs.declared.Candidate.{Candidate}
 use Rattle.choice.specs.Choice.{storedFrom, wantedFrom, costOf, ranked, triedOne, bestAfter, bestAmong, repeated, overallOf}
 
 bool-num : (b : Bool) → boolByte b ≡ num b
@@ -87,7 +87,7 @@ module _ (s w : List ℕ) (at : Slot) where
   counted-all c o i h z g = rw (g, z, h) (sym (cost-is (at .kind) e x m o))
 
   -- the better of the best so far and o
-  module _ (b : Best) (o : List ℕ) {n : ℕ} {d : Bool} (h : n ≡ costOf s w at o) (g : d ≡ sooner n o (b .selects) (b .overall)) where
+  module _ (b : Candidate) (o : List ℕ) {n : ℕ} {d : Bool} (h : n ≡ costOf s w at o) (g : d ≡ sooner n o (b .selects) (b .overall)) where
     told : {t : Bool} → d ≡ t → sooner (costOf s w at o) o (b .selects) (b .overall) ≡ t
     told q = rw (← h) (sym g ∙ q)
 
@@ -106,18 +106,18 @@ module _ (s w : List ℕ) (at : Slot) where
 
   -- over what is tried for one record
   module _ (y a : List ℕ) where
-    abbrev pub upto : ℕ → Best
+    abbrev pub upto : ℕ → Candidate
     upto v = ranked s w at (bestTried (at .kind) e x m y a v)
 
-    pub upto-next : {b r : Best} {z : List ℕ} (v : ℕ) → b ≡ upto v → z ≡ tried (at .kind) y v → r ≡ triedOne s w at b z → r ≡ upto (v + 1)
+    pub upto-next : {b r : Candidate} {z : List ℕ} (v : ℕ) → b ≡ upto v → z ≡ tried (at .kind) y v → r ≡ triedOne s w at b z → r ≡ upto (v + 1)
     upto-next v h g q = rw (add-one v) (rw (h, g) at q ∙ ranked-better (bestTried (at .kind) e x m y a v) (tried (at .kind) y v))
 
-    pub upto-all : {b : Best} {n : ℕ} (v : ℕ) → n ≡ tries (at .kind) y → v ≡ n → b ≡ upto v → b ≡ ranked s w at (bestAfter s w at y a)
+    pub upto-all : {b : Candidate} {n : ℕ} (v : ℕ) → n ≡ tries (at .kind) y → v ≡ n → b ≡ upto v → b ≡ ranked s w at (bestAfter s w at y a)
     unfolding bestAfter
     upto-all v h g q = q ∙ ap upto (g ∙ h) ∙ ap (ranked s w at) (tries-do (at .kind) e x m y a)
 
   -- over the records
-  pub best-ranked : {b : Best} (i : ℕ) → b ≡ bestAmong s w at i → b ≡ ranked s w at (b .overall)
+  pub best-ranked : {b : Candidate} (i : ℕ) → b ≡ bestAmong s w at i → b ≡ ranked s w at (b .overall)
   unfolding bestAmong
   best-ranked i h = rw h
 
@@ -128,7 +128,7 @@ module _ (s w : List ℕ) (at : Slot) where
     at-j : at .first + n ≡ j
     at-j = omega arith
 
-    pub record-again : {b : Best} {d : Bool} → b ≡ bestAmong s w at n → d ≡ repeated w (at .first) j → d ≡ true → b ≡ bestAmong s w at (suc n)
+    pub record-again : {b : Candidate} {d : Bool} → b ≡ bestAmong s w at n → d ≡ repeated w (at .first) j → d ≡ true → b ≡ bestAmong s w at (suc n)
     unfolding bestAmong repeated
     record-again h g t =
         let f = like w (at .first) j in
@@ -137,7 +137,7 @@ module _ (s w : List ℕ) (at : Slot) where
         let q : x i ≡ x n = alike-same (x i) (settingsIn w j) refl refl (first-passes f n u) ∙ ap (settingsIn w) (sym at-j) in
         h ∙ ap (ranked s w at) (sym (best-again (at .kind) e x m n i u q))
 
-    pub record-new : {b r : Best} {y : List ℕ} → b ≡ bestAmong s w at n → y ≡ settingsIn w j → r ≡ ranked s w at (bestAfter s w at y (b .overall)) → r ≡ bestAmong s w at (suc n)
+    pub record-new : {b r : Candidate} {y : List ℕ} → b ≡ bestAmong s w at n → y ≡ settingsIn w j → r ≡ ranked s w at (bestAfter s w at y (b .overall)) → r ≡ bestAmong s w at (suc n)
     unfolding bestAmong bestAfter
     record-new h g q = q ∙ rw (h, g) (ap (λ (y : List ℕ). ranked s w at (bestTried (at .kind) e x m y (bestOf (at .kind) e x m n) 4)) (ap (settingsIn w) (sym at-j)))
 
@@ -149,9 +149,9 @@ module _ (s w : List ℕ) (at : Slot) where
   unfolding bestAmong
   first-best h = let z : at .first - at .first ≡ 0 = omega arith in rw (z, h)
 
-  pub next-best : {b : Best} (j : ℕ) → at .first ≤ j → b ≡ bestAmong s w at (suc (j - at .first)) → b ≡ bestAmong s w at (j + 1 - at .first)
+  pub next-best : {b : Candidate} (j : ℕ) → at .first ≤ j → b ≡ bestAmong s w at (suc (j - at .first)) → b ≡ bestAmong s w at (j + 1 - at .first)
   next-best j l h = let z : j + 1 - at .first ≡ suc (j - at .first) = omega arith in rw z h
 
-  pub all-best : {b : Best} (i : ℕ) → i ≡ m → b ≡ bestAmong s w at i → b .overall ≡ overallOf s w at
+  pub all-best : {b : Candidate} (i : ℕ) → i ≡ m → b ≡ bestAmong s w at i → b .overall ≡ overallOf s w at
   unfolding bestAmong overallOf overallFor
-  all-best i z h = ap (λ (b : Best). b .overall) h ∙ ap (bestOf (at .kind) e x m) z
+  all-best i z h = ap (λ (b : Candidate). b .overall) h ∙ ap (bestOf (at .kind) e x m) z

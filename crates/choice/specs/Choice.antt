@@ -9,7 +9,7 @@ use Rattle.wishes.specs.Parts.{cost, sooner, bestTried, bestOf, overallFor}
 use Rattle.shelf.specs.Elements.{settingsAt}
 use Rattle.pages.specs.declared.slots.Slot.{Slot}
 use Rattle.control.specs.Brought.{settingsIn}
-use Rattle.choice.specs.declared.Best.{Best}
+use Rattle.choice.specs.declared.Candidate.{Candidate}
 
 -- what is stored and wanted of the elements from a on
 abbrev pub storedFrom : List ℕ → ℕ → ℕ → List ℕ
@@ -22,11 +22,11 @@ wantedFrom w a i = settingsIn w (a + i)
 unfoldable pub costOf : List ℕ → List ℕ → Slot → List ℕ → ℕ
 costOf s w at o = cost (at .kind) (storedFrom s (at .first)) (wantedFrom w (at .first)) (at .end - at .first) o
 
-abbrev pub ranked : List ℕ → List ℕ → Slot → List ℕ → Best
+abbrev pub ranked : List ℕ → List ℕ → Slot → List ℕ → Candidate
 ranked s w at o = record { overall = o; selects = costOf s w at o }
 
 -- the better of the best so far and o
-unfoldable pub triedOne : List ℕ → List ℕ → Slot → Best → List ℕ → Best
+unfoldable pub triedOne : List ℕ → List ℕ → Slot → Candidate → List ℕ → Candidate
 triedOne s w at b o = pick (sooner (costOf s w at o) o (b .selects) (b .overall)) (ranked s w at o) b
 
 -- the best of a and what is tried for the record x
@@ -34,7 +34,7 @@ unfoldable pub bestAfter : List ℕ → List ℕ → Slot → List ℕ → List 
 bestAfter s w at x a = bestTried (at .kind) (storedFrom s (at .first)) (wantedFrom w (at .first)) (at .end - at .first) x a 4
 
 -- the best of the unselected element and what is tried for the first n records
-unfoldable pub bestAmong : List ℕ → List ℕ → Slot → ℕ → Best
+unfoldable pub bestAmong : List ℕ → List ℕ → Slot → ℕ → Candidate
 bestAmong s w at n = ranked s w at (bestOf (at .kind) (storedFrom s (at .first)) (wantedFrom w (at .first)) (at .end - at .first) n)
 
 -- what is wanted of element j is wanted of one from a on before it

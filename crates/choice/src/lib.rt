@@ -9,8 +9,8 @@ ghost use Prim.Native.Nat.{suc, _-_, _≤_};
 ghost use Rattle.control.specs.Brought.{settingsIn};
 ghost use Rattle.choice.specs.Choice.{costOf, ranked, triedOne, bestAfter, bestAmong, repeated, overallOf};
 
-// An overall element, and the SELECTs that its type needs with it.
-pub struct Best {
+// An overall element that is tried, and the SELECTs that its type needs with it.
+pub struct Candidate {
     pub overall: [u8; 4],
     pub selects: u32,
 }
@@ -43,20 +43,20 @@ fn cost(shelf: &[u8], wanted: &[u8], at: Slot, overall: [u8; 4]) -> u32
     n
 }
 
-fn try_one(shelf: &[u8], wanted: &[u8], at: Slot, best: Best, overall: [u8; 4]) -> Best
+fn try_one(shelf: &[u8], wanted: &[u8], at: Slot, best: Candidate, overall: [u8; 4]) -> Candidate
     ensures { λ r. ⌜ r ≡ triedOne (now (shelf .entry)) (now (wanted .entry)) at best overall ⌝ }
 {
     let selects = cost(shelf, wanted, at, overall);
     let so_far = best.overall;
     if wishes::sooner(selects, overall, best.selects, so_far) {
-        Best { overall, selects }
+        Candidate { overall, selects }
     } else {
         best
     }
 }
 
 // The best of one and what is tried for a wanted record.
-fn try_record(shelf: &[u8], wanted: &[u8], at: Slot, best: Best, x: [u8; 4]) -> Best
+fn try_record(shelf: &[u8], wanted: &[u8], at: Slot, best: Candidate, x: [u8; 4]) -> Candidate
     requires { ⌜ best ≡ ranked (now shelf) (now wanted) at (best .overall) ⌝ }
     ensures { λ r. ⌜ r ≡ ranked (now (shelf .entry)) (now (wanted .entry)) at (bestAfter (now (shelf .entry)) (now (wanted .entry)) at x (best .overall)) ⌝ }
 {
@@ -87,7 +87,7 @@ fn is_repeated(wanted: &[u8], first: u16, j: u16) -> bool
 }
 
 // The best of one that is the best for the records before j, and what is tried for that of j.
-fn consider(shelf: &[u8], wanted: &[u8], at: Slot, best: Best, j: u16) -> Best
+fn consider(shelf: &[u8], wanted: &[u8], at: Slot, best: Candidate, j: u16) -> Candidate
     requires { ⌜ at .first ≤ j ⌝ }
     requires { ⌜ best ≡ bestAmong (now shelf) (now wanted) at (j - at .first) ⌝ }
     ensures { λ r. ⌜ r ≡ bestAmong (now (shelf .entry)) (now (wanted .entry)) at (suc (j - at .first)) ⌝ }
@@ -107,7 +107,7 @@ pub fn overall(shelf: &[u8], wanted: &[u8], at: Slot) -> [u8; 4]
     if selects <= 1 {
         return wishes::SILENT;
     }
-    let mut best = Best {
+    let mut best = Candidate {
         overall: wishes::SILENT,
         selects,
     };

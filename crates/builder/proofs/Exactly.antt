@@ -3,15 +3,16 @@ use mathlib.Core.Path.{_≡_, sym, ap, _∙_}
 use mathlib.Core.Bool.{Bool, true, false}
 use mathlib.Core.List.{List, _++_}
 use mathlib.Core.Logic.{inl, inr}
-use Prim.Native.Nat.{ℕ, _*_, _<_}
+use Prim.Native.Nat.{ℕ, _+_, _*_, _<_}
 use native.Mathlib.Omega.{arith}
 use lib.Dec.{eqb, leb}
-use lib.ListN.{length, take, drop}
+use lib.ListN.{length, getD, take, drop}
 use lib.Seq.{take-at}
 use borrow.Author.Tests.{eq-eqb}
 use Rattle.bits.specs.Choice.{pick, allBelow}
 use Rattle.bits.specs.Places.{fourAt}
-use Rattle.bits.proofs.Logic.{below-all}
+use Rattle.bits.specs.Numbers.{Bytes}
+use Rattle.bits.proofs.Logic.{by-case, below-all}
 use Rattle.bits.proofs.Rows.{length-joined}
 use Rattle.kinds.specs.Settings.{settingsFormed}
 use Rattle.kinds.proofs.Settled.{settled-formed}
@@ -19,21 +20,25 @@ use Rattle.refusals.specs.declared.Refusal.{Refusal}
 use Rattle.refusals.specs.declared.Refusal.the-variants.{Unreachable, OutputTooShort}
 use Rattle.refusals.specs.declared.Answer.{Answer}
 use Rattle.refusals.specs.declared.Answer.the-variants as answer
+use Rattle.shelf.specs.Limits.{elementPlace}
 use Rattle.shelf.specs.Types.{elementsOf, kindAt}
 use Rattle.shelf.specs.Elements.{settingsAt}
 use Rattle.opening.specs.Formed.{wellFormed}
 use Rattle.opening.proofs.Parts.{in-element}
 use Rattle.pages.specs.Slots.{slotPlace}
 use Rattle.pages.specs.Places.{ownSlot, overallSlot, placesOf}
-use Rattle.control.specs.Brought.{settingsAfter, broughtTo, storedSettings}
+use Rattle.control.specs.Brought.{settingsAfter, broughtTo, storedSettings, settingsIn}
 use Rattle.control.proofs.Valid.{valid-formed}
 use Rattle.control.proofs.Acted.{after-length}
-use Rattle.control.proofs.Laws.{after, reached}
+use Rattle.control.proofs.Laws.{after, reached, settled-kept}
 use Rattle.builder.specs.declared.built.Built.{Built}
 use Rattle.builder.specs.declared.built.Built.the-variants.{Page, Refused}
 use Rattle.builder.specs.Outcome.{builtOf, leftBy}
 use Rattle.builder.specs.Promise.{mayBe, wishAsked, selectsOn, Reaching, Best, OutOfReach, Answered, Passed, Promised}
+use Rattle.builder.specs.Page.{controlPage, reachable}
 use Rattle.builder.proofs.First.{brought}
+use Rattle.builder.proofs.Best.{only-one}
+use Rattle.builder.proofs.Kept.{no-page, best-page}
 
 -- a wish that some page reaches passes the tests
 module _ (s w q : List ℕ) (r : Reaching s w q) where
@@ -61,6 +66,11 @@ module _ (s w q : List ℕ) (r : Reaching s w q) where
 -- applied, it brings the shelf to the wish
 pub applied : (s w p : List ℕ) → Reaching s w p → storedSettings (after s p) ≡ w
 applied s w p r = reached s p (r .1) ∙ r .2
+
+-- and an element that is wanted as it is stored keeps every byte
+pub as-stored-kept : (s w p : List ℕ) → Reaching s w p → (j : ℕ) → j < elementsOf s → settingsIn w j ≡ settingsAt s j
+    → (q : ℕ) → q < 16 → getD (after s p) (elementPlace j + q) 0 ≡ getD s (elementPlace j + q) 0
+as-stored-kept s w p r j l e = settled-kept s p j l (brought s w p (r .2) j l ∙ e)
 
 -- a page that is built is no refusal, and a short buffer not refusal 10
 no-refusal : (n m : ℕ) (x : Refusal) → Page n m ≡ Refused x → ⊥
@@ -110,3 +120,10 @@ module _ (s w out : List ℕ) (r : Built) (y : List ℕ) (h : Promised s w out r
           let f : y ≡ p ++ drop n out = b .3 ∙ ap (λ (x : Built). leftBy x p out) e in
           let g : take n y ≡ p = ap (take n) f ∙ take-at p (drop n out) n (sym (z .0)) in
           rw g (b .1, z .1, f)
+
+-- the best page is the one that is made
+pub best-is-made : (s w p : List ℕ) → Bytes s → Bytes w → Best s w p → p ≡ controlPage s w
+best-is-made s w p hs hw b =
+    by-case (allBelow (reachable s w) (elementsOf s))
+    (λ t. only-one s w p (controlPage s w) b (best-page s w (wish-passes s w p (b .0)) hs hw t))
+    (λ t. absurd (no-page s w t p (b .0)))

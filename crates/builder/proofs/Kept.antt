@@ -28,7 +28,7 @@ use Rattle.control.specs.Brought.{settingsIn}
 use Rattle.builder.specs.declared.built.Built.{Built}
 use Rattle.builder.specs.declared.built.Built.the-variants.{Refused}
 use Rattle.builder.specs.Outcome.{passedOn, builtOf, leftBy}
-use Rattle.builder.specs.Promise.{mayBe, wishAsked, OutOfReach, Answered, Passed, Promised}
+use Rattle.builder.specs.Promise.{mayBe, wishAsked, Best, OutOfReach, Answered, Passed, Promised}
 use Rattle.builder.specs.Page.{selectsFor, controlPage, reachable}
 use Rattle.builder.proofs.Ahead.{made-selects}
 use Rattle.builder.proofs.Made.{out-of-reach}
@@ -55,6 +55,36 @@ into true b t u = refl
 into false true t u = never (sym t)
 into false false t u = never (sym u)
 
+-- where a SWAP is wanted that is not stored, no page reaches the wish
+pub no-page : (s w : List ℕ) → allBelow (reachable s w) (elementsOf s) ≡ false → OutOfReach s w
+no-page s w t q r =
+    let z = some-fails (reachable s w) (elementsOf s) t in
+    let v = swaps (z .0) (z .2) in
+    out-of-reach s w (z .0) (z .1) (v .1) (v .0) q (r .2)
+  where
+    swaps : (j : ℕ) → reachable s w j ≡ false → (settingsOf (kindAt s j) (settingsAt s j) .swap ≡ false) × (settingsOf (kindAt s j) (settingsIn w j) .swap ≡ true)
+    swaps j f = unfold reachable inReach in out-of _ _ f
+
+-- else the best page is the one that is made, if the wish passes the tests
+module _ (s w : List ℕ) (taken : wishAsked s w ≡ answer.Accepted) where
+  all-passed : (wellFormed s ≡ true) × (length w ≡ 4 * elementsOf s) × (allBelow (mayBe s w) (elementsOf s) ≡ true)
+  unfolding wishAsked
+  all-passed =
+      let b = held-both (shelfAsked s) (unless (eqb (length w) (4 * elementsOf s)) WantedList (unless (allBelow (mayBe s w) (elementsOf s)) WantedList answer.Accepted)) taken in
+      let f = held (wellFormed s) ShelfNotWellFormed answer.Accepted (b .0) in
+      let n = held (eqb (length w) (4 * elementsOf s)) WantedList (unless (allBelow (mayBe s w) (elementsOf s)) WantedList answer.Accepted) (b .1) in
+      (f .0, eqb-true _ _ (n .0), held (allBelow (mayBe s w) (elementsOf s)) WantedList answer.Accepted (n .1) .0)
+
+  swap-stored : (j : ℕ) → reachable s w j ≡ true → settingsOf (kindAt s j) (settingsIn w j) .swap ≡ true → settingsOf (kindAt s j) (settingsAt s j) .swap ≡ true
+  unfolding reachable inReach
+  swap-stored j f = into _ _ f
+
+  pub best-page : Bytes s → Bytes w → allBelow (reachable s w) (elementsOf s) ≡ true → Best s w (controlPage s w)
+  best-page hs hw t =
+      let z = all-passed in
+      made-best s w (z .0) hs hw (z .1)
+      (λ j l. (below-at (mayBe s w) (elementsOf s) (z .2) j l, swap-stored j (below-at (reachable s w) (elementsOf s) t j l)))
+
 module _ (s w out : List ℕ) where
   pub wish-refused : {a : Answer} {x : Refusal} {r : Built} → a ≡ wishAsked s w → a ≡ answer.Refused x → r ≡ passedOn a → Promised s w out r out
   wish-refused {a} {x} {r} p u h =
@@ -66,42 +96,22 @@ module _ (s w out : List ℕ) where
     taken : wishAsked s w ≡ answer.Accepted
     taken = sym p ∙ u
 
-    unreached : OutOfReach s w → Promised s w out (Refused Unreachable) out
-    unreached h = rw taken (inl (h, refl, refl))
+    reach-is : {n : ℕ} {d b : Bool} → n ≡ elementsOf s → d ≡ allBelow (reachable s w) n → d ≡ b → allBelow (reachable s w) (elementsOf s) ≡ b
+    reach-is e h t = ap (allBelow (reachable s w)) (sym e) ∙ sym h ∙ t
 
     pub none-reaches : {n : ℕ} {d : Bool} → n ≡ elementsOf s → d ≡ allBelow (reachable s w) n → d ≡ false → Promised s w out (Refused Unreachable) out
-    none-reaches {n} e h t =
-        let z = some-fails (reachable s w) n (sym h ∙ t) in
-        let k = kindAt s (z .0) in
-        let v = swaps (z .0) (z .2) in
-        unreached (λ q r. out-of-reach s w (z .0) (omega (arith, z .1, e)) (v .1) (v .0) q (r .2))
-      where
-        swaps : (j : ℕ) → reachable s w j ≡ false → (settingsOf (kindAt s j) (settingsAt s j) .swap ≡ false) × (settingsOf (kindAt s j) (settingsIn w j) .swap ≡ true)
-        swaps j f = unfold reachable inReach in out-of _ _ f
-
-    -- what the tests say
-    all-passed : (wellFormed s ≡ true) × (length w ≡ 4 * elementsOf s) × (allBelow (mayBe s w) (elementsOf s) ≡ true)
-    unfolding wishAsked
-    all-passed =
-        let b = held-both (shelfAsked s) (unless (eqb (length w) (4 * elementsOf s)) WantedList (unless (allBelow (mayBe s w) (elementsOf s)) WantedList answer.Accepted)) taken in
-        let f = held (wellFormed s) ShelfNotWellFormed answer.Accepted (b .0) in
-        let n = held (eqb (length w) (4 * elementsOf s)) WantedList (unless (allBelow (mayBe s w) (elementsOf s)) WantedList answer.Accepted) (b .1) in
-        (f .0, eqb-true _ _ (n .0), held (allBelow (mayBe s w) (elementsOf s)) WantedList answer.Accepted (n .1) .0)
+    none-reaches e h t = rw taken (inl (no-page s w (reach-is e h t), refl, refl))
 
     pub page-promised : Bytes s → Bytes w → {n : ℕ} {d : Bool} {r : Built} {y : List ℕ} → n ≡ elementsOf s → d ≡ allBelow (reachable s w) n → d ≡ true
         → r ≡ builtOf (controlPage s w) (selectsFor s w (slotsOf s)) out → y ≡ leftBy r (controlPage s w) out → Promised s w out r y
-    page-promised hs hw {n} e h t q v =
-        let z = all-passed in
+    page-promised hs hw e h t q v =
         rw taken
         (inr (
           controlPage s w,
-          made-best s w (z .0) hs hw (z .1) (λ j l. (below-at (mayBe s w) (elementsOf s) (z .2) j l, swap-stored j (below-at (reachable s w) n (sym h ∙ t) j (omega (arith, l, e))))),
+          best-page s w taken hs hw (reach-is e h t),
           q ∙ ap (λ (m : ℕ). builtOf (controlPage s w) m out) (sym (made-selects s w)),
           v,
         ))
-      where
-        swap-stored : (j : ℕ) → reachable s w j ≡ true → settingsOf (kindAt s j) (settingsIn w j) .swap ≡ true → settingsOf (kindAt s j) (settingsAt s j) .swap ≡ true
-        swap-stored j f = unfold reachable inReach in into _ _ f
 
   -- two outcomes that keep the promise are one
   pub settles : (r q : Built) (y z : List ℕ) → Promised s w out r y → Promised s w out q z → (r ≡ q) × (y ≡ z)

@@ -7,3 +7,4 @@ pub mod Made
 pub mod Best
 pub mod Kept
 pub mod Exactly
+pub mod Alone

@@ -87,15 +87,17 @@ module _ (s p : List ℕ) where
         ap (joined (settingsAt (after s p))) (elements-alike s (after s p) configuration-kept)
         ∙ joined-same (settingsAt (after s p)) (settingsAfter s p) n settings-reached
 
-  -- an element on which nothing acts keeps every byte
-  module _ (j : ℕ) (l : j < n) (e : actingAt p (placesOf s j) .select ≡ false) where
-    same : settingsAfter s p j ≡ settingsAt s j
-    unfolding settingsAfter settled
-    same = pick-no _ _ _ e
+  -- an element that keeps its settings keeps every byte
+  pub settled-kept : (j : ℕ) → j < n → settingsAfter s p j ≡ settingsAt s j → (q : ℕ) → q < 16 → getD (after s p) (elementPlace j + q) 0 ≡ getD s (elementPlace j + q) 0
+  unfolding withSettings settingsAt
+  settled-kept j l e q m = element-same elementPlace 0 settings-place (omega arith) f s n (valid s p) j (λ v. settings-reached v j l ∙ e) q m
 
-    pub unchosen-kept : (q : ℕ) → q < 16 → getD (after s p) (elementPlace j + q) 0 ≡ getD s (elementPlace j + q) 0
-    unfolding withSettings settingsAt
-    unchosen-kept q m = element-same elementPlace 0 settings-place (omega arith) f s n (valid s p) j (λ v. settings-reached v j l ∙ same) q m
+  -- and one on which nothing acts does
+  pub unchosen-kept : (j : ℕ) → j < n → actingAt p (placesOf s j) .select ≡ false → (q : ℕ) → q < 16 → getD (after s p) (elementPlace j + q) 0 ≡ getD s (elementPlace j + q) 0
+  unchosen-kept j l e = settled-kept j l same
+    where
+      same : settingsAfter s p j ≡ settingsAt s j
+      same = unfold settingsAfter settled in pick-no _ _ _ e
 
   -- a well-formed shelf stays well formed
   module _ (w : wellFormed s ≡ true) where

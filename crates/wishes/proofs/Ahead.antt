@@ -10,7 +10,7 @@ use lib.ListN.{length, getD}
 use borrow.Author.Tests.{eqb-true, eqb-false, eq-eqb}
 use Rattle.bits.specs.Choice.{pick}
 use Rattle.bits.specs.Bits.{num}
-use Rattle.bits.proofs.Logic.{never, by-case, and-four}
+use Rattle.bits.proofs.Logic.{never, by-case, pick-yes, and-four}
 use Rattle.bits.proofs.Rows.{as-four}
 use Rattle.order.specs.Order.{InOrder, NotAfter}
 use Rattle.kinds.specs.declared.types.Kind.{Kind}
@@ -23,7 +23,7 @@ use Rattle.kinds.proofs.Settled.{settled-length}
 use Rattle.wishes.specs.Wishes.{silent, alike, askBytes, requestFor, clearing, turning, own, brings, one}
 use Rattle.wishes.proofs.Layouts.{ask-order, storable-small, no-stop, request-storable}
 use Rattle.wishes.proofs.Asking.{Reaches, ask-again, request-reaches, request-is, reaches-it}
-use Rattle.wishes.proofs.Told.{ask-selected, ask-fine, ask-length, ask-small, ask-control, silent-fine}
+use Rattle.wishes.proofs.Told.{ask-selected, ask-fine, ask-length, ask-small, ask-control, silent-control, silent-fine}
 
 -- four zeros come first
 zero-order : (a : ℕ) (p q : List ℕ) → InOrder p q → InOrder (0 ∷ p) (a ∷ q)
@@ -217,3 +217,13 @@ module _ (k : Kind) (e w : List ℕ) where
     pub one-selects : num (selected (one k c e w)) ≡ num (not (brings k c e w))
     unfolding one
     one-selects = by-case (brings k c e w) (λ t. rw t) (λ t. rw (t, own-selected))
+
+-- an element that is wanted as it is stored is left alone where no overall element asks for anything
+module _ (k : Kind) (e w : List ℕ) (q : e ≡ w) where
+  pub brings-same : brings k (controlOf k silent) e w ≡ true
+  unfolding brings settled
+  brings-same = rw (silent-control k) (alike-self w e q)
+
+  pub one-same : one k (controlOf k silent) e w ≡ silent
+  unfolding one
+  one-same = pick-yes (brings k (controlOf k silent) e w) silent (own k e w) brings-same

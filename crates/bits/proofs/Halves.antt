@@ -80,7 +80,7 @@ nibble-bits false false true false = (refl, refl, refl, refl)
 nibble-bits false false false true = (refl, refl, refl, refl)
 nibble-bits false false false false = (refl, refl, refl, refl)
 
-num-small : (a : Bool) → num a ≤ 1
+pub num-small : (a : Bool) → num a ≤ 1
 num-small true = omega arith
 num-small false = omega arith
 

@@ -10,6 +10,7 @@ use Rattle.bits.specs.Choice.{sumBelow}
 use Rattle.bits.specs.Bits.{num}
 use Rattle.bits.specs.Numbers.{Bytes}
 use Rattle.bits.specs.Places.{fourAt}
+use Rattle.bits.proofs.Halves.{num-small}
 use Rattle.bits.proofs.Logic.{by-case, pick-yes, pick-no}
 use Rattle.kinds.specs.declared.types.Kind.{Kind}
 use Rattle.kinds.specs.Control.{controlOf}
@@ -22,11 +23,11 @@ use Rattle.shelf.specs.Types.{typesOf, typeCount, before, elementsOf}
 use Rattle.shelf.specs.Elements.{settingsAt}
 use Rattle.opening.specs.Formed.{frontFormed}
 use Rattle.opening.proofs.Typed.{front-formed}
-use Rattle.pages.specs.Slots.{slotsOf, startOf, slotType, isOverall, slotAt, slotPlace}
+use Rattle.pages.specs.Slots.{slotsOf, startOf, slotType, slotAt, slotPlace}
 use Rattle.pages.specs.Places.{ownSlot}
 use Rattle.pages.proofs.Paired.{start-up}
 use Rattle.pages.proofs.Slotted.{start-below, types-below}
-use Rattle.pages.proofs.Fronted.{first-is, first-typed, first-there}
+use Rattle.pages.proofs.Fronted.{after-start, first-is, first-typed, first-there}
 use Rattle.control.specs.Brought.{settingsIn}
 use Rattle.control.proofs.Valid.{valid-formed}
 use Rattle.builder.specs.Promise.{Best}
@@ -34,10 +35,6 @@ use Rattle.builder.specs.Page.{typeKind, storedIn, wantedIn, overallIn, 
 use Rattle.builder.proofs.Typewise.{slots-end, element-here}
 use Rattle.builder.proofs.Ahead.{made-row}
 use Rattle.builder.proofs.Exactly.{best-is-made}
-
-bit-small : (b : Bool) → num b ≤ 1
-bit-small true = omega arith
-bit-small false = omega arith
 
 -- a sum of ones and zeros that has a one at most at j − d
 at-most-one : (f : ℕ → Bool) (j d n : ℕ) → ((i : ℕ) → i < n → (d + i ≡ j → ⊥) → f i ≡ false) → sumBelow (λ i. num (f i)) n ≤ 1
@@ -51,7 +48,7 @@ at-most-one f j d (suc n) h =
     none e (suc m) l = let z = h m (omega arith) (λ q. absurd (omega (arith, e, q, l))) in rw z (omega (arith, none e m (omega arith)))
 
     last : d + n ≡ j → sumBelow (λ i. num (f i)) n + num (f n) ≤ 1
-    last e = omega (arith, none e n (omega arith), bit-small (f n))
+    last e = omega (arith, none e n (omega arith), num-small (f n))
 
 module _ (s w : List ℕ) (f : frontFormed s ≡ true) (j : ℕ) (same : (i : ℕ) → i < elementsOf s → (i ≡ j → ⊥) → settingsAt s i ≡ settingsIn w i) where
   -- no overall element is selected
@@ -87,12 +84,8 @@ module _ (s w : List ℕ) (f : frontFormed s ≡ true) (j : ℕ) (same : (i : �
 
     -- an individual slot is its element's own
     module _ (o : slotAt s i .overall ≡ false) where
-      behind : slotType s i < i
-      unfolding slotAt isOverall
-      behind = omega (arith, start-below s i, types-below s (slotType s i), eqb-false i (startOf s (slotType s i)) o)
-
       own : slotAt s i .first ≡ j → i ≡ ownSlot s j
-      own e = rw (← e) (omega (arith, first-is s f i h o, first-typed s f i h o, behind))
+      own e = rw (← e) (omega (arith, first-is s f i h o, first-typed s f i h o, after-start s f i h o, types-below s (slotType s i)))
 
       element-row : (i ≡ ownSlot s j → ⊥) → rowFor s w i ≡ silent
       unfolding rowFor rowUnder

@@ -8,9 +8,9 @@ use native.Mathlib.Omega.{arith}
 use lib.Dec.{eqb, ltb}
 use lib.ListN.{getD}
 use borrow.Author.Tests.{eqb-true, eqb-false, eq-eqb, le-ltb, ltb-true, ltb-false}
-use Rattle.bits.specs.Choice.{pick, allBelow, firstBelow}
+use Rattle.bits.specs.Choice.{pick, allBelow}
 use Rattle.bits.specs.Bits.{num, bit}
-use Rattle.bits.proofs.Logic.{by-case, pick-yes, pick-no, below-all, below-fails, below-next, fails, first-none, first-passes, byByteIf}
+use Rattle.bits.proofs.Logic.{by-case, pick-yes, pick-no, below-all, below-fails, below-next, fails, first-none, byByteIf}
 use Rattle.kinds.specs.declared.types.Kind.{Kind}
 use Rattle.kinds.specs.declared.control.Control.{Control}
 use Rattle.kinds.specs.Settings.{settingsFormed}
@@ -23,7 +23,7 @@ use Rattle.shelf.specs.Elements.{settingsAt}
 use Rattle.pages.specs.declared.slots.Slot.{Slot}
 use Rattle.pages.specs.Slots.{startOf, inType, slotType, isOverall, slotAt}
 use Rattle.pages.proofs.Paired.{start-up, slotted}
-use Rattle.pages.proofs.Slotted.{start-below}
+use Rattle.pages.proofs.Slotted.{start-below, type-ends}
 use Rattle.control.specs.Brought.{settingsIn}
 use Rattle.choice.specs.Choice.{overallOf}
 use Rattle.builder.specs.Promise.{mayBe}
@@ -72,10 +72,6 @@ module _ (s : List ℕ) where
           let u : startOf s (t + 1) ≤ startOf s mostTypes = rw e at (start-up s (t + 1) (mostTypes - (t + 1))) in
           ap not (le-ltb i (startOf s (t + 1)) (omega arith))
 
-  type-ends : (i : ℕ) → slotType s i < mostTypes → i < startOf s (slotType s i + 1)
-  unfolding slotType
-  type-ends i l = ltb-true i (startOf s (firstBelow (inType s i) mostTypes + 1)) (first-passes (inType s i) mostTypes l)
-
   -- only at an overall element does the type change
   same-type : (i : ℕ) → isOverall s (suc i) ≡ false → slotType s i ≡ slotType s (suc i)
   unfolding isOverall
@@ -88,7 +84,7 @@ module _ (s : List ℕ) where
       within : slotType s (suc i) < mostTypes → startOf s (slotType s (suc i)) ≤ i → slotType s i ≡ slotType s (suc i)
       within l g =
           let u = slotType s (suc i) in
-          let e = type-ends (suc i) l in
+          let e = type-ends s (suc i) l in
           slotted s u i l g (omega (arith, e))
 
       behind : mostTypes ≤ slotType s (suc i) → startOf s (slotType s (suc i)) ≤ i → slotType s i ≡ slotType s (suc i)

@@ -9,6 +9,7 @@ use mir.Val.{boolByte}
 use borrow.Author.Tests.{lt-ltb, le-ltb, ltb-true}
 use Rattle.bits.specs.Choice.{allBelow, firstBelow, sumBelow}
 use Rattle.bits.specs.Bits.{num}
+use Rattle.bits.proofs.Halves.{num-small}
 use Rattle.bits.proofs.Logic.{by-case, pick-yes, pick-no, fails, first-none, first-at, first-passes}
 use Rattle.kinds.specs.declared.control.Control.{Control}
 use Rattle.kinds.specs.Control.{controlOf}
@@ -27,8 +28,7 @@ bool-num true = refl
 bool-num false = refl
 
 pub bool-small : (b : Bool) → boolByte b ≤ 1
-bool-small true = omega arith
-bool-small false = omega arith
+bool-small b = rw (bool-num b) (num-small b)
 
 -- the search for an equal record
 module _ (w : List ℕ) (a j : ℕ) where

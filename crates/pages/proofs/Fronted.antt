@@ -8,7 +8,7 @@ use native.Mathlib.Omega.{arith}
 use lib.Dec.{ltb}
 use borrow.Author.Tests.{ltb-true, ltb-false, lt-ltb, le-ltb, eq-eqb}
 use Rattle.bits.specs.Choice.{firstBelow}
-use Rattle.bits.proofs.Logic.{never, pick-no, first-same, fails, below-all, first-passes, first-fails, first-at}
+use Rattle.bits.proofs.Logic.{never, pick-no, first-same, fails, below-all, first-fails, first-at}
 use Rattle.kinds.specs.Types.{kindOf}
 use Rattle.shelf.specs.Limits.{mostTypes}
 use Rattle.shelf.specs.Types.{typeCode, before, elementsOf, within, typeOf, kindAt}
@@ -17,7 +17,7 @@ use Rattle.shelf.proofs.Counts.{before-next}
 use Rattle.opening.proofs.Fronts.{front, front-get, types-same, code-same, count-same, before-same, elements-same}
 use Rattle.pages.specs.Slots.{slotsOf, startOf, inType, slotType, isOverall, slotAt}
 use Rattle.pages.specs.Header.{header}
-use Rattle.pages.proofs.Slotted.{start-below}
+use Rattle.pages.proofs.Slotted.{start-below, type-ends}
 use Rattle.opening.proofs.Parts.{few-types}
 
 module _ (s : List ℕ) where
@@ -72,8 +72,7 @@ module _ (s : List ℕ) where
             never (sym p ∙ q)
 
     slot-end : i < startOf s (slotType s i + 1)
-    unfolding slotType
-    slot-end = ltb-true i (startOf s (firstBelow (inType s i) mostTypes + 1)) (first-passes (inType s i) mostTypes slot-below)
+    slot-end = type-ends s i slot-below
 
     -- the front has the same slot
     pub slot-same : slotAt (front s) i ≡ slotAt s i
@@ -84,7 +83,7 @@ module _ (s : List ℕ) where
 
     -- an individual slot's element is there, and of the slot's type
     module _ (o : slotAt s i .overall ≡ false) where
-      after-start : startOf s (slotType s i) < i
+      pub after-start : startOf s (slotType s i) < i
       unfolding slotAt isOverall
       after-start =
           let e : i ≡ startOf s (slotType s i) → ⊥ = λ q. never (sym (eq-eqb i (startOf s (slotType s i)) q) ∙ o) in

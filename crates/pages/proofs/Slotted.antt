@@ -2,13 +2,13 @@
 use mathlib.Core.Path.{_≡_, refl}
 use mathlib.Core.Bool.{true, false}
 use mathlib.Core.List.{List}
-use Prim.Native.Nat.{ℕ, zero, suc, _+_, _≤_, _-_}
+use Prim.Native.Nat.{ℕ, zero, suc, _+_, _-_, _<_, _≤_}
 use native.Mathlib.Numerals.{add-one}
 use native.Mathlib.Omega.{arith}
 use lib.Dec.{eqb}
-use borrow.Author.Tests.{ltb-false, eq-eqb, ne-eqb}
+use borrow.Author.Tests.{ltb-true, ltb-false, eq-eqb, ne-eqb}
 use Rattle.bits.specs.Choice.{firstBelow}
-use Rattle.bits.proofs.Logic.{first-fails}
+use Rattle.bits.proofs.Logic.{first-passes, first-fails}
 use Rattle.kinds.specs.declared.types.Kind.{Kind}
 use Rattle.kinds.specs.Types.{kindOf}
 use Rattle.shelf.specs.Limits.{mostTypes}
@@ -25,6 +25,11 @@ start-below c i = go (firstBelow (inType c i) mostTypes) refl
     go : (t : ℕ) → firstBelow (inType c i) mostTypes ≡ t → startOf c t ≤ i
     go zero e = omega (arith, start-none c)
     go (suc t) e = rw (← (add-one t)) (ltb-false i (startOf c (t + 1)) (first-fails (inType c i) mostTypes t (omega arith)))
+
+-- nor behind it
+pub type-ends : (c : List ℕ) (i : ℕ) → slotType c i < mostTypes → i < startOf c (slotType c i + 1)
+unfolding slotType
+type-ends c i l = ltb-true i (startOf c (firstBelow (inType c i) mostTypes + 1)) (first-passes (inType c i) mostTypes l)
 
 -- each type has a slot of its own
 pub types-below : (c : List ℕ) (t : ℕ) → t ≤ startOf c t

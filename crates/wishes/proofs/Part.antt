@@ -15,6 +15,7 @@ use Rattle.bits.specs.Numbers.{big}
 use Rattle.bits.specs.Places.{fourAt}
 use Rattle.bits.specs.Rows.{joined}
 use Rattle.bits.proofs.Logic.{never, by-case, pick-yes, pick-no, and-left, and-right, first-passes, first-fails}
+use Rattle.bits.proofs.Halves.{num-small}
 use Rattle.bits.proofs.Rows.{as-four}
 use Rattle.order.specs.Order.{InOrder, NotAfter}
 use Rattle.order.proofs.Dictionary.{order-refl, order-front}
@@ -60,16 +61,9 @@ by-number k p q hp hq h =
     (four-by-number (getD p 0 0) (getD p 1 0) (getD p 2 0) (getD p 3 0) (getD q 0 0) (getD q 1 0) (getD q 2 0) (getD q 3 0)
     (hp .1 0) (hp .1 1) (hp .1 2) (hp .1 3) (hq .1 0) (hq .1 1) (hq .1 2) (hq .1 3) h)
 
-selects-most : (c : List ℕ) → selects c ≤ 1
-selects-most c = go (selected c)
-  where
-    go : (b : Bool) → num b ≤ 1
-    go true = omega arith
-    go false = omega arith
-
 count-most : (c : ℕ → List ℕ) (m : ℕ) → sumBelow (λ i. selects (c i)) m ≤ m
 count-most c zero = omega arith
-count-most c (suc m) = omega (arith, count-most c m, selects-most (c m))
+count-most c (suc m) = omega (arith, count-most c m, num-small (selected (c m)))
 
 count-all : (c : ℕ → List ℕ) (m : ℕ) → ((i : ℕ) → i < m → selected (c i) ≡ true) → sumBelow (λ i. selects (c i)) m ≡ m
 count-all c zero h = refl

@@ -79,6 +79,10 @@ pub below-all : (f : ℕ → Bool) (n : ℕ) → ((k : ℕ) → k < n → f k �
 below-all f zero h = refl
 below-all f (suc n) h = and-both (below-all f n (λ k l. h k (omega arith))) (h n (omega arith))
 
+-- a test that fails below n fails below what is more
+pub below-cut : (f : ℕ → Bool) (n m : ℕ) → n ≤ m → allBelow f n ≡ false → allBelow f m ≡ false
+below-cut f n m l e = by-case (allBelow f m) (λ t. never (sym (below-all f n (λ k h. below-at f m t k (omega arith))) ∙ e)) (λ t. t)
+
 -- the test f fails
 abbrev pub fails : (ℕ → Bool) → ℕ → Bool
 fails f k = not (f k)

@@ -8,10 +8,10 @@ use native.Mathlib.Numerals.{add-one}
 use native.Mathlib.Omega.{arith}
 use lib.ListN.{length, getD, take, drop, set, length-append, length-drop, take-append-drop, List·getD-append}
 use lib.Seq.{sets, sets-eq, take-at, drop-append-add, drop-drop, drop-cons, take-add, getD-append-add, getD-drop, take-suc, set-at, append-snoc, length-take-le}
-use borrow.Author.Tests.{le-leb, lt-leb}
+use borrow.Author.Tests.{le-leb}
 use Rattle.bits.specs.Places.{fourAt, putFour}
 use Rattle.bits.specs.Rows.{joined, oneAt, bytesAt, putBytes}
-use Rattle.bits.proofs.Logic.{pick-yes, pick-no}
+use Rattle.bits.proofs.Logic.{pick-yes}
 
 module _ (f : ℕ → List ℕ) (w : ℕ) (h : (i : ℕ) → length (f i) ≡ w) where
   pub length-joined : (n : ℕ) → length (joined f n) ≡ w * n
@@ -162,7 +162,3 @@ pub copied : (s : List ℕ) (k : ℕ) (f : List ℕ) (at n : ℕ) → k + n ≤ 
     → take k s ++ bytesAt f at n ++ drop (k + n) s ≡ putBytes s k (bytesAt f at n)
 unfolding putBytes
 copied s k f at n h = rw (length-bytes-at f at n) (sym (pick-yes _ _ _ (le-leb (k + n) (length s) h)))
-
-pub not-copied : (s : List ℕ) (k : ℕ) (f : List ℕ) (at n : ℕ) → length s < k + n → s ≡ putBytes s k (bytesAt f at n)
-unfolding putBytes
-not-copied s k f at n h = rw (length-bytes-at f at n) (sym (pick-no _ _ _ (lt-leb (k + n) (length s) h)))

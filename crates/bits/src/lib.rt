@@ -1,10 +1,9 @@
 // Bytes: the bits of one, the two halves of one, big-endian numbers, and lent bytes at any place.
 //
-// Nothing here asks anything of its caller: a byte past the end of a slice reads as 0, and bytes that
-// would not fit are not written.
+// A caller shows that the bytes it reads or writes stand in the slice, so that nothing is tested here.
 ghost use mathlib.Core.Path.{_≡_};
-ghost use Prim.Native.Nat.{_+_, _*_};
-ghost use lib.ListN.{getD};
+ghost use Prim.Native.Nat.{_+_, _*_, _<_, _≤_};
+ghost use lib.ListN.{getD, length};
 ghost use Rattle.bits.specs.Choice.{firstOf};
 ghost use Rattle.bits.specs.Bits.{nibble, join};
 ghost use Rattle.bits.specs.Places.{fourAt, putFour, twoAt};
@@ -43,18 +42,21 @@ pub fn first_of(a: bool, b: bool, c: bool, d: bool) -> u8
 }
 
 fn get(s: &[u8], k: usize) -> u8
+    requires { ⌜ k < length (now s) ⌝ }
     ensures { λ r. ⌜ r ≡ getD (now (s .entry)) k 0 ⌝ }
 {
-    if k < s.len() { s[k] } else { 0 }
+    s[k]
 }
 
 pub fn byte_at(s: &[u8], at: u32) -> u8
+    requires { ⌜ at < length (now s) ⌝ }
     ensures { λ r. ⌜ r ≡ getD (now (s .entry)) at 0 ⌝ }
 {
     get(s, at as usize)
 }
 
 pub fn four_at(s: &[u8], at: u32) -> [u8; 4]
+    requires { ⌜ at + 4 ≤ length (now s) ⌝ }
     ensures { λ r. ⌜ r ≡ fourAt (now (s .entry)) at ⌝ }
 {
     let k = at as usize;
@@ -62,32 +64,32 @@ pub fn four_at(s: &[u8], at: u32) -> [u8; 4]
 }
 
 pub fn put_four(s: &mut [u8], at: u32, f: [u8; 4])
+    requires { ⌜ at + 4 ≤ length (now s) ⌝ }
     ensures { λ _. ⌜ now (s .exit) ≡ putFour (now (s .entry)) at f ⌝ }
 {
     let k = at as usize;
-    if k + 4 <= s.len() {
-        s[k] = f[0];
-        s[k + 1] = f[1];
-        s[k + 2] = f[2];
-        s[k + 3] = f[3];
-    }
+    s[k] = f[0];
+    s[k + 1] = f[1];
+    s[k + 2] = f[2];
+    s[k + 3] = f[3];
 }
 
 // Copies n bytes.
 pub fn copy(from: &[u8], at: u32, to: &mut [u8], place: u32, n: u32)
+    requires { ⌜ at + n ≤ length (now from) ⌝ }
+    requires { ⌜ place + n ≤ length (now to) ⌝ }
     ensures { λ _. ⌜ now (to .exit) ≡ putBytes (now (to .entry)) place (bytesAt (now (from .entry)) at n) ⌝ }
 {
     let k = place as usize;
-    if k + n as usize <= to.len() {
-        let mut i: usize = 0;
-        while i < n as usize {
-            to[k + i] = get(from, at as usize + i);
-            i += 1;
-        }
+    let mut i: usize = 0;
+    while i < n as usize {
+        to[k + i] = get(from, at as usize + i);
+        i += 1;
     }
 }
 
 pub fn big16_at(s: &[u8], at: u32) -> u16
+    requires { ⌜ at + 2 ≤ length (now s) ⌝ }
     ensures { λ r. ⌜ r ≡ big (twoAt (now (s .entry)) at) ⌝ }
 {
     let k = at as usize;
@@ -95,6 +97,7 @@ pub fn big16_at(s: &[u8], at: u32) -> u16
 }
 
 pub fn big32_at(s: &[u8], at: u32) -> u32
+    requires { ⌜ at + 4 ≤ length (now s) ⌝ }
     ensures { λ r. ⌜ r ≡ big (fourAt (now (s .entry)) at) ⌝ }
 {
     let high = big16_at(s, at) as u32;

@@ -96,6 +96,9 @@ module _ (s w out : List ℕ) where
     taken : wishAsked s w ≡ answer.Accepted
     taken = sym p ∙ u
 
+    pub wish-there : (wellFormed s ≡ true) × (length w ≡ 4 * elementsOf s)
+    wish-there = let z = all-passed s w taken in (z .0, z .1)
+
     reach-is : {n : ℕ} {d b : Bool} → n ≡ elementsOf s → d ≡ allBelow (reachable s w) n → d ≡ b → allBelow (reachable s w) (elementsOf s) ≡ b
     reach-is e h t = ap (allBelow (reachable s w)) (sym e) ∙ sym h ∙ t
 

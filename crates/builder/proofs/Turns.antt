@@ -2,11 +2,11 @@
 use mathlib.Core.Path.{_≡_, refl, sym, ap, _∙_}
 use mathlib.Core.Bool.{Bool, true, false, not}
 use mathlib.Core.List.{List}
-use Prim.Native.Nat.{ℕ, zero, suc, _+_, _-_, _/_, _<_, _≤_}
+use Prim.Native.Nat.{ℕ, zero, suc, _+_, _*_, _-_, _/_, _<_, _≤_}
 use native.Mathlib.Numerals.{add-one}
 use native.Mathlib.Omega.{arith}
 use lib.Dec.{eqb, ltb}
-use lib.ListN.{getD}
+use lib.ListN.{length, getD}
 use borrow.Author.Tests.{eqb-true, eqb-false, eq-eqb, le-ltb, ltb-true, ltb-false}
 use Rattle.bits.specs.Choice.{pick, allBelow}
 use Rattle.bits.specs.Bits.{num, bit}
@@ -18,14 +18,17 @@ use Rattle.kinds.specs.Control.{controlOf}
 use Rattle.wishes.specs.Wishes.{silent, inReach, one}
 use Rattle.wishes.specs.Parts.{selects}
 use Rattle.shelf.specs.Limits.{mostTypes}
-use Rattle.shelf.specs.Types.{typeCount, before, kindAt}
+use Rattle.shelf.specs.Types.{typeCount, before, elementsOf, kindAt}
+use Rattle.opening.specs.Formed.{wellFormed}
+use Rattle.opening.proofs.Typed.{front-formed}
 use Rattle.shelf.specs.Elements.{settingsAt}
 use Rattle.pages.specs.declared.slots.Slot.{Slot}
-use Rattle.pages.specs.Slots.{startOf, inType, slotType, isOverall, slotAt}
-use Rattle.pages.proofs.Paired.{start-up, slotted}
+use Rattle.pages.specs.Slots.{slotsOf, startOf, inType, slotType, isOverall, slotAt}
+use Rattle.pages.proofs.Fronted.{end-there}
+use Rattle.pages.proofs.Paired.{start-up, slotted, slot-has}
 use Rattle.pages.proofs.Slotted.{start-below, type-ends}
 use Rattle.control.specs.Brought.{settingsIn}
-use Rattle.choice.specs.Choice.{overallOf}
+use Rattle.choice.specs.Choice.{HasWishes, overallOf}
 use Rattle.builder.specs.Promise.{mayBe}
 use Rattle.builder.specs.Page.{overallIn, rowUnder, rowFor, selectsFor, reachable}
 use Rattle.builder.proofs.First.{rowFor-row}
@@ -142,3 +145,10 @@ module _ (s : List ℕ) where
 
     pub count-next : (i : ℕ) {n : ℕ} {y : List ℕ} → n ≡ selectsFor s w i → y ≡ rowFor s w i → n + getD y 0 0 / 128 ≡ selectsFor s w (i + 1)
     count-next i h g = rw (add-one i) (omega (arith, h, row-counts i g .0))
+
+-- what is read for a slot: the elements that it is for, stored and wanted
+pub slot-wishes : (s w : List ℕ) → wellFormed s ≡ true → 4 * elementsOf s ≤ length w → (i : ℕ) → i < slotsOf s → {at : Slot} → at ≡ slotAt s i
+    → HasWishes s w at
+slot-wishes s w f m i l {at} e =
+    let b : at .end ≡ slotAt s i .end = ap (λ (x : Slot). x .end) e in
+    (slot-has s f i l e, omega (arith, b, m, end-there s (front-formed s f) i l))

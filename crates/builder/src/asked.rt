@@ -5,17 +5,26 @@ use refusals::Refusal;
 use shelf::elements;
 use shelf::types;
 ghost use mathlib.Core.Path.{_≡_};
+ghost use Prim.Native.Nat.{_*_, _≤_};
+ghost use lib.ListN.{length};
+ghost use Rattle.shelf.specs.Limits.{elementPlace};
 ghost use Rattle.bits.specs.Choice.{allBelow};
 ghost use Rattle.builder.specs.Promise.{mayBe, wishAsked};
 ghost use Rattle.builder.specs.Page.{reachable};
 
 // Whether each of the first n records is one that its type may have.
 fn may_be(shelf: &[u8], wanted: &[u8], n: u16) -> bool
+    requires { ⌜ elementPlace n ≤ length (now shelf) ⌝ }
+    requires { ⌜ 4 * n ≤ length (now wanted) ⌝ }
     ensures { λ r. ⌜ r ≡ allBelow (mayBe (now (shelf .entry)) (now (wanted .entry))) n ⌝ }
 {
+    let mut run = types::first_run(shelf);
     let mut j: u16 = 0;
     while j < n {
-        if !settings::are_formed(types::kind_at(shelf, j), choice::wanted_at(wanted, j)) {
+        let here = types::run_to(shelf, run, j);
+        run = here;
+        let kind = here.kind;
+        if !settings::are_formed(kind, choice::wanted_at(wanted, j)) {
             return false;
         }
         j += 1;
@@ -25,12 +34,18 @@ fn may_be(shelf: &[u8], wanted: &[u8], n: u16) -> bool
 
 // Whether each of the first n elements can be brought to its record.
 pub fn reach(shelf: &[u8], wanted: &[u8], n: u16) -> bool
+    requires { ⌜ elementPlace n ≤ length (now shelf) ⌝ }
+    requires { ⌜ 4 * n ≤ length (now wanted) ⌝ }
     ensures { λ r. ⌜ r ≡ allBelow (reachable (now (shelf .entry)) (now (wanted .entry))) n ⌝ }
 {
+    let mut run = types::first_run(shelf);
     let mut j: u16 = 0;
     while j < n {
+        let here = types::run_to(shelf, run, j);
+        run = here;
+        let kind = here.kind;
         if !wishes::in_reach(
-            types::kind_at(shelf, j),
+            kind,
             elements::settings_at(shelf, j),
             choice::wanted_at(wanted, j),
         ) {

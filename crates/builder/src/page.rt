@@ -8,14 +8,21 @@ use pages::slots::Slot;
 use refusals::Refusal;
 use shelf::elements;
 ghost use mathlib.Core.Path.{_≡_};
+ghost use mathlib.Core.Bool.{true};
+ghost use Prim.Native.Nat.{_*_, _≤_};
+ghost use lib.ListN.{length};
 ghost use Rattle.bits.specs.Choice.{pick};
-ghost use Rattle.choice.specs.Choice.{overallOf};
+ghost use Rattle.shelf.specs.Types.{elementsOf};
+ghost use Rattle.opening.specs.Formed.{wellFormed};
+ghost use Rattle.choice.specs.Choice.{HasWishes, overallOf};
 ghost use Rattle.pages.specs.Slots.{slotsOf, slotsPut};
+ghost use Rattle.pages.specs.Header.{HasPage};
 ghost use Rattle.builder.specs.Outcome.{builtOf, leftBy};
 ghost use Rattle.builder.specs.Page.{rowUnder, rowFor, selectsFor, controlPage};
 
 // The overall element that stands from this slot on.
 fn overall(shelf: &[u8], wanted: &[u8], at: Slot, standing: [u8; 4]) -> [u8; 4]
+    requires { ⌜ HasWishes (now shelf) (now wanted) at ⌝ }
     ensures { λ r. ⌜ r ≡ pick (at .overall) (overallOf (now (shelf .entry)) (now (wanted .entry)) at) standing ⌝ }
 {
     if at.overall {
@@ -27,6 +34,7 @@ fn overall(shelf: &[u8], wanted: &[u8], at: Slot, standing: [u8; 4]) -> [u8; 4]
 
 // The four bytes of a slot, where this is the overall element of its type.
 fn row(shelf: &[u8], wanted: &[u8], at: Slot, overall: [u8; 4]) -> [u8; 4]
+    requires { ⌜ HasWishes (now shelf) (now wanted) at ⌝ }
     ensures { λ r. ⌜ r ≡ rowUnder (now (shelf .entry)) (now (wanted .entry)) at overall ⌝ }
 {
     if at.overall {
@@ -44,14 +52,20 @@ fn row(shelf: &[u8], wanted: &[u8], at: Slot, overall: [u8; 4]) -> [u8; 4]
 // Puts the first n slots, and tells their SELECTs. The overall element of a type is searched where the type starts, and carried on to
 // its elements: `over`, which takes a call's result by way of a variable.
 fn put_slots(shelf: &[u8], wanted: &[u8], out: &mut [u8], n: u16) -> u32
+    requires { ⌜ HasPage (now shelf) (now out) ⌝ }
+    requires { ⌜ n ≡ slotsOf (now shelf) ⌝ }
+    requires { ⌜ 4 * elementsOf (now shelf) ≤ length (now wanted) ⌝ }
     ensures { λ r. ⌜ r ≡ selectsFor (now (shelf .entry)) (now (wanted .entry)) n ⌝ }
     ensures { λ _. ⌜ now (out .exit) ≡ slotsPut (rowFor (now (shelf .entry)) (now (wanted .entry))) (now (out .entry)) n ⌝ }
 {
     let mut sum: u32 = 0;
     let mut over = wishes::SILENT;
+    let mut run = slots::first_run();
     let mut i: u16 = 0;
     while i < n {
-        let at = slots::slot_at(shelf, i);
+        let here = slots::run_to(shelf, run, i);
+        run = here;
+        let at = slots::slot_in(here, i);
         let current = overall(shelf, wanted, at, over);
         over = current;
         let bytes = row(shelf, wanted, at, current);
@@ -64,6 +78,8 @@ fn put_slots(shelf: &[u8], wanted: &[u8], out: &mut [u8], n: u16) -> u32
 
 // Writes the page if the output buffer holds it.
 pub fn write(shelf: &[u8], wanted: &[u8], out: &mut [u8]) -> Built
+    requires { ⌜ wellFormed (now shelf) ≡ true ⌝ }
+    requires { ⌜ 4 * elementsOf (now shelf) ≤ length (now wanted) ⌝ }
     ensures { λ r. ⌜ r ≡ builtOf (controlPage (now (shelf .entry)) (now (wanted .entry))) (selectsFor (now (shelf .entry)) (now (wanted .entry)) (slotsOf (now (shelf .entry)))) (now (out .entry)) ⌝ }
     ensures { λ r. ⌜ now (out .exit) ≡ leftBy r (controlPage (now (shelf .entry)) (now (wanted .entry))) (now (out .entry)) ⌝ }
 {

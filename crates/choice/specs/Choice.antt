@@ -1,15 +1,24 @@
 -- The overall element for the elements that a slot is for, of a shelf s and a wanted list w. Assumes nothing.
 use mathlib.Core.Bool.{Bool}
 use mathlib.Core.List.{List}
-use Prim.Native.Nat.{ℕ, _+_, _-_}
+use Prim.Native.Nat.{ℕ, _+_, _*_, _-_, _≤_}
 use lib.Dec.{ltb}
+use lib.ListN.{length}
 use Rattle.bits.specs.Choice.{pick, firstBelow}
 use Rattle.wishes.specs.Wishes.{alike}
 use Rattle.wishes.specs.Parts.{cost, sooner, bestTried, bestOf, overallFor}
 use Rattle.shelf.specs.Elements.{settingsAt}
 use Rattle.pages.specs.declared.slots.Slot.{Slot}
+use Rattle.pages.specs.Slots.{HasElements}
 use Rattle.control.specs.Brought.{settingsIn}
 use Rattle.choice.specs.declared.Candidate.{Candidate}
+
+-- the wanted list w has a record for element j, and for all that a slot is for, which the shelf s has
+abbrev pub HasWish : List ℕ → ℕ → Type 0
+HasWish w j = 4 * j + 4 ≤ length w
+
+abbrev pub HasWishes : List ℕ → List ℕ → Slot → Type 0
+HasWishes s w at = HasElements s at × (4 * at .end ≤ length w)
 
 -- what is stored and wanted of the elements from a on
 abbrev pub storedFrom : List ℕ → ℕ → ℕ → List ℕ

@@ -5,9 +5,9 @@ use kinds::control::Control;
 use pages::slots::Slot;
 use shelf::elements;
 ghost use mathlib.Core.Path.{_≡_};
-ghost use Prim.Native.Nat.{suc, _-_, _≤_};
+ghost use Prim.Native.Nat.{suc, _-_, _<_, _≤_};
 ghost use Rattle.control.specs.Brought.{settingsIn};
-ghost use Rattle.choice.specs.Choice.{costOf, ranked, triedOne, bestAfter, bestAmong, repeated, overallOf};
+ghost use Rattle.choice.specs.Choice.{HasWish, HasWishes, costOf, ranked, triedOne, bestAfter, bestAmong, repeated, overallOf};
 
 // An overall element that is tried, and the SELECTs that its type needs with it.
 pub struct Candidate {
@@ -17,6 +17,7 @@ pub struct Candidate {
 
 // What is wanted of element j.
 pub fn wanted_at(wanted: &[u8], j: u16) -> [u8; 4]
+    requires { ⌜ HasWish (now wanted) j ⌝ }
     ensures { λ r. ⌜ r ≡ settingsIn (now (wanted .entry)) j ⌝ }
 {
     bits::four_at(wanted, 4 * j as u32)
@@ -24,6 +25,7 @@ pub fn wanted_at(wanted: &[u8], j: u16) -> [u8; 4]
 
 // The SELECTs that the elements from `first` up to `end` need with this overall element, its own counted.
 fn cost(shelf: &[u8], wanted: &[u8], at: Slot, overall: [u8; 4]) -> u32
+    requires { ⌜ HasWishes (now shelf) (now wanted) at ⌝ }
     ensures { λ r. ⌜ r ≡ costOf (now (shelf .entry)) (now (wanted .entry)) at overall ⌝ }
 {
     let kind = at.kind;
@@ -44,6 +46,7 @@ fn cost(shelf: &[u8], wanted: &[u8], at: Slot, overall: [u8; 4]) -> u32
 }
 
 fn try_one(shelf: &[u8], wanted: &[u8], at: Slot, best: Candidate, overall: [u8; 4]) -> Candidate
+    requires { ⌜ HasWishes (now shelf) (now wanted) at ⌝ }
     ensures { λ r. ⌜ r ≡ triedOne (now (shelf .entry)) (now (wanted .entry)) at best overall ⌝ }
 {
     let selects = cost(shelf, wanted, at, overall);
@@ -57,6 +60,7 @@ fn try_one(shelf: &[u8], wanted: &[u8], at: Slot, best: Candidate, overall: [u8;
 
 // The best of one and what is tried for a wanted record.
 fn try_record(shelf: &[u8], wanted: &[u8], at: Slot, best: Candidate, x: [u8; 4]) -> Candidate
+    requires { ⌜ HasWishes (now shelf) (now wanted) at ⌝ }
     requires { ⌜ best ≡ ranked (now shelf) (now wanted) at (best .overall) ⌝ }
     ensures { λ r. ⌜ r ≡ ranked (now (shelf .entry)) (now (wanted .entry)) at (bestAfter (now (shelf .entry)) (now (wanted .entry)) at x (best .overall)) ⌝ }
 {
@@ -73,6 +77,7 @@ fn try_record(shelf: &[u8], wanted: &[u8], at: Slot, best: Candidate, x: [u8; 4]
 
 // Whether what is wanted of element j is wanted of one before it, from `first` on.
 fn is_repeated(wanted: &[u8], first: u16, j: u16) -> bool
+    requires { ⌜ HasWish (now wanted) j ⌝ }
     ensures { λ r. ⌜ r ≡ repeated (now (wanted .entry)) first j ⌝ }
 {
     let x = wanted_at(wanted, j);
@@ -88,7 +93,8 @@ fn is_repeated(wanted: &[u8], first: u16, j: u16) -> bool
 
 // The best of one that is the best for the records before j, and what is tried for that of j.
 fn consider(shelf: &[u8], wanted: &[u8], at: Slot, best: Candidate, j: u16) -> Candidate
-    requires { ⌜ at .first ≤ j ⌝ }
+    requires { ⌜ HasWishes (now shelf) (now wanted) at ⌝ }
+    requires { ⌜ (at .first ≤ j) × (j < at .end) ⌝ }
     requires { ⌜ best ≡ bestAmong (now shelf) (now wanted) at (j - at .first) ⌝ }
     ensures { λ r. ⌜ r ≡ bestAmong (now (shelf .entry)) (now (wanted .entry)) at (suc (j - at .first)) ⌝ }
 {
@@ -101,6 +107,7 @@ fn consider(shelf: &[u8], wanted: &[u8], at: Slot, best: Candidate, j: u16) -> C
 
 // Where one SELECT at most is needed without an overall element, none with one does better.
 pub fn overall(shelf: &[u8], wanted: &[u8], at: Slot) -> [u8; 4]
+    requires { ⌜ HasWishes (now shelf) (now wanted) at ⌝ }
     ensures { λ r. ⌜ r ≡ overallOf (now (shelf .entry)) (now (wanted .entry)) at ⌝ }
 {
     let selects = cost(shelf, wanted, at, wishes::SILENT);

@@ -24,10 +24,11 @@ use Rattle.pages.specs.Header.{lengthSaid}
 use Rattle.configuration.specs.Page.{headerPlace, typeHeader, textOf, textStart, configurationLength, fixedPart, configurationPage}
 use Rattle.configuration.specs.Read.{typesOn, headerByte, totalBefore, textPlaceOn, configurationRead}
 use Rattle.configuration.specs.Told.{toldByte, textByte, oneTold, headTold, textTold, typeTold, configurationOf}
-use Rattle.configuration.proofs.Runs.{pieces, bytes-split, bytes-rows, bytes-runs, bytes-same, four-bytes, bytes-whole, sum-same, sum-part, sum-past, Every, every-joined, every-get}
+use Rattle.configuration.proofs.Runs.{pieces, bytes-split, bytes-rows, bytes-runs, bytes-same, four-bytes, bytes-whole, sum-same, sum-part, Every, every-joined, every-get}
 use Rattle.bits.proofs.Logic.{by-case}
 use Rattle.configuration.proofs.Fitted.{length-type, length-configuration}
 use Rattle.configuration.proofs.Passed.{code-passed, length-passed, needed-passed, byte-1, byte-8, byte-9, byte-11, types-passed, code-served, counts-passed, third-zero, text-short, text-passed}
+use Rattle.configuration.proofs.Carried.{told-byte, past-byte, told-sum, few-types}
 use Rattle.configuration.proofs.Handed.{handed-generation, handed-identification, handed-types, handed-zeros, handed-type, handed-code, handed-count, handed-length, handed-spare, handed-text}
 
 -- a byte of a page is below 256, also past the end
@@ -40,10 +41,6 @@ abbrev isZero : ℕ → Bool
 isZero b = eqb b 0
 
 -- past the last type a page tells zeros
-past-byte : (p : List ℕ) (t j : ℕ) → typesOn p ≤ t → toldByte p j t ≡ 0
-unfolding toldByte
-past-byte p t j h = pick-no _ _ _ (le-ltb t (typesOn p) h)
-
 past-text : (p : List ℕ) (t i : ℕ) → typesOn p ≤ t → textByte p t i ≡ 0
 unfolding textByte
 past-text p t i h = pick-no _ _ _ (ap (ltb i) (past-byte p t 3 h) ∙ le-ltb i 0 (omega arith))
@@ -58,19 +55,12 @@ past-type p t h =
     zero-byte j = eq-eqb (toldByte p j t) 0 (past-byte p t j h)
 
 module _ (p : List ℕ) (a : configurationRead p ≡ Accepted) where
-  few-types : typesOn p ≤ mostTypes
-  few-types = leb-true (typesOn p) mostTypes (types-passed p a .1)
-
   module _ (t : ℕ) (h : t < typesOn p) where
     below : t < mostTypes
-    below = omega (arith, few-types)
-
-    told-byte : (j : ℕ) → toldByte p j t ≡ headerByte p j t
-    unfolding toldByte
-    told-byte j = pick-yes _ _ _ (lt-ltb t (typesOn p) h)
+    below = omega (arith, few-types p a)
 
     told-length : textLength (configurationOf p) t ≡ headerByte p 3 t
-    told-length = handed-length p t below ∙ told-byte 3
+    told-length = handed-length p t below ∙ told-byte p t 3 h
 
     short : headerByte p 3 t ≤ mostText
     short = leb-true (headerByte p 3 t) mostText (text-short p a t h)
@@ -79,7 +69,7 @@ module _ (p : List ℕ) (a : configurationRead p ≡ Accepted) where
     unfolding textByte
     told-text i l =
         handed-text p t below i (omega (arith, short))
-        ∙ pick-yes _ _ _ (lt-ltb i (toldByte p 3 t) (rw (told-byte 3) l))
+        ∙ pick-yes _ _ _ (lt-ltb i (toldByte p 3 t) (rw (told-byte p t 3 h) l))
 
     -- the text stands on the page
     on-page : (i : ℕ) → i < headerByte p 3 t → textPlaceOn p t + i < length p
@@ -100,7 +90,7 @@ module _ (p : List ℕ) (a : configurationRead p ≡ Accepted) where
         pick-yes _ _ _ e ∙ ap (λ (b : ℕ). leb 0x20 b && leb b 0x7e) (told-text i m) ∙ text-passed p a (textPlaceOn p t + i) (after-headers i) (on-page i m))
         (λ e.
         let m : headerByte p 3 t ≤ i = rw told-length at (ltb-false i (textLength c t) e) in
-        pick-no _ _ _ e ∙ ap isZero (handed-text p t below i l ∙ pick-no _ _ _ (le-ltb i (toldByte p 3 t) (rw (told-byte 3) m))))
+        pick-no _ _ _ e ∙ ap isZero (handed-text p t below i l ∙ pick-no _ _ _ (le-ltb i (toldByte p 3 t) (rw (told-byte p t 3 h) m))))
 
     type-formed : typeFormed (configurationOf p) t ≡ true
     unfolding typeFormed textFormed
@@ -110,8 +100,8 @@ module _ (p : List ℕ) (a : configurationRead p ≡ Accepted) where
         (and-both
         (and-both
         (and-both
-        (ap served (handed-code p t below ∙ told-byte 0) ∙ code-served p a t h)
-        (ap (λ (n : ℕ). leb n mostInType) (handed-count p t below ∙ told-byte 1) ∙ counts-passed p a t h .0))
+        (ap served (handed-code p t below ∙ told-byte p t 0 h) ∙ code-served p a t h)
+        (ap (λ (n : ℕ). leb n mostInType) (handed-count p t below ∙ told-byte p t 1 h) ∙ counts-passed p a t h .0))
         (ap (λ (n : ℕ). leb n mostText) told-length ∙ text-short p a t h))
         (eq-eqb (getD c (typePlace t + 3) 0) 0 (handed-spare p t below)))
         (below-all (textByteFormed c t) mostText text-byte)
@@ -140,13 +130,8 @@ module _ (p : List ℕ) (a : configurationRead p ≡ Accepted) where
   all-counts : elementsOf (configurationOf p) ≡ sumBelow (headerByte p 1) (typesOn p)
   unfolding elementsOf before
   all-counts =
-      let n = typesOn p in
-      let m = few-types in
-      let e : mostTypes ≡ n + (mostTypes - n) = omega arith in
       sum-same (typeCount (configurationOf p)) (toldByte p 1) mostTypes (λ t l. handed-count p t l)
-      ∙ ap (sumBelow (toldByte p 1)) e
-      ∙ sum-past (toldByte p 1) n (mostTypes - n) (λ t l. past-byte p t 1 l)
-      ∙ sum-same (toldByte p 1) (headerByte p 1) n (λ t l. told-byte t l 1)
+      ∙ told-sum p 1 mostTypes (few-types p a)
 
   pub formed-again : configurationFormed (configurationOf p) ≡ true
   unfolding configurationFormed frontFormed headFormed typesFormed
@@ -182,8 +167,8 @@ module _ (p : List ℕ) (a : configurationRead p ≡ Accepted) where
       header : (t : ℕ) → t < typesOn p → typeHeader (configurationOf p) t ≡ fourAt p (headerPlace t)
       header t l =
           let z : getD p (headerPlace t + 0) 0 ≡ getD p (headerPlace t) 0 = ap (λ (k : ℕ). getD p k 0) (add-zero (headerPlace t)) in
-          let e0 : typeCode (configurationOf p) t ≡ getD p (headerPlace t) 0 = handed-code p t (below t l) ∙ told-byte t l 0 ∙ z in
-          let e1 : typeCount (configurationOf p) t ≡ getD p (headerPlace t + 1) 0 = handed-count p t (below t l) ∙ told-byte t l 1 in
+          let e0 : typeCode (configurationOf p) t ≡ getD p (headerPlace t) 0 = handed-code p t (below t l) ∙ told-byte p t 0 l ∙ z in
+          let e1 : typeCount (configurationOf p) t ≡ getD p (headerPlace t + 1) 0 = handed-count p t (below t l) ∙ told-byte p t 1 l in
           rw (e0, e1, third-zero p a t l, told-length t l)
 
   same-texts : joined (textOf (configurationOf p)) (typesOn p) ≡ bytesAt p (headerPlace (typesOn p)) (sumBelow (headerByte p 3) (typesOn p))

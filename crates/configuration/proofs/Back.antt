@@ -9,7 +9,7 @@ use native.Mathlib.Omega.{arith}
 use lib.Dec.{eqb, leb, ltb}
 use lib.ListN.{length, getD, take}
 use lib.Seq.{take-all}
-use borrow.Author.Tests.{le-leb, lt-ltb, le-ltb, ltb-true, ltb-false, eq-eqb, eqb-true, eqb-false}
+use borrow.Author.Tests.{le-leb, le-ltb, ltb-true, ltb-false, eq-eqb, eqb-true, eqb-false}
 use Rattle.bits.specs.Numbers.{big, bytes}
 use Rattle.bits.specs.Places.{twoAt, fourAt}
 use Rattle.bits.specs.Rows.{joined, oneAt, bytesAt}
@@ -26,30 +26,24 @@ use Rattle.pages.specs.Header.{lengthSaid}
 use Rattle.configuration.specs.Page.{headerPlace, typeHeader, textOf, textStart, configurationLength, fixedPart, configurationPage}
 use Rattle.configuration.specs.Read.{typesOn, headerByte, totalBefore, textPlaceOn, neededLength, fixedOffends, headerOffends, textOffends, offends, firstOffence, configurationRead}
 use Rattle.configuration.specs.Told.{toldByte, textByte, oneTold, headTold, textTold, typeTold, configurationOf}
-use Rattle.configuration.proofs.Runs.{pieces, get-behind, bytes-split, bytes-rows, bytes-same, four-bytes, sum-part, sum-bound, every-joined, every-bytes, every-get}
+use Rattle.configuration.proofs.Runs.{pieces, get-behind, bytes-split, bytes-rows, bytes-same, four-bytes, sum-part, every-joined, every-bytes, every-get}
 use Rattle.bits.proofs.Logic.{by-case}
-use Rattle.configuration.proofs.Fitted.{length-page, length-texts, not-empty}
+use Rattle.configuration.proofs.Fitted.{short, length-page, length-texts, not-empty}
 use Rattle.configuration.proofs.Tested.{none-offends, all-passed}
+use Rattle.configuration.proofs.Carried.{told-byte, past-byte}
 use Rattle.configuration.proofs.OnPage.{page-fixed, page-types, page-header, page-counts, page-lengths, page-texts, page-text}
-use Rattle.opening.proofs.Parts.{few-elements, in-head, few-types, in-type, short-text, text-printable, text-padded, type-clear}
+use Rattle.opening.proofs.Parts.{few-elements, in-head, few-types, in-type, text-printable, text-padded, type-clear}
 
 abbrev printable : ℕ → Bool
 printable b = leb 0x20 b && leb b 0x7e
 
 module _ (s : List ℕ) (w : frontFormed s ≡ true) where
   -- the two length fields
-  short : configurationLength s ≤ 336
-  unfolding configurationLength textStart
-  short =
-      let b = sum-bound (textLength s) mostText (typesOf s) (λ t l. short-text s w t l) in
-      let n = few-types s w in
-      omega arith
-
   said : lengthSaid (configurationPage s) ≡ true
   unfolding lengthSaid fixedPart
   said =
       let m : ℕ = configurationLength s - 4 in
-      let l = short in
+      let l = short s w in
       let four : 4 ≤ configurationLength s = not-empty s refl in
       let e : big (twoAt (configurationPage s) 2) ≡ m =
       ap₂ (λ (x y : ℕ). big (x ∷ y ∷ [])) (page-fixed s 2 (omega arith)) (page-fixed s 3 (omega arith)) ∙ big-bytes 2 m (omega arith) in
@@ -180,12 +174,10 @@ module _ (s : List ℕ) (w : frontFormed s ≡ true) where
 
   -- a header, and the zeros past the last type
   named-byte : (t j : ℕ) → t < typesOf s → j < 4 → toldByte (configurationPage s) j t ≡ getD (typeHeader s t) j 0
-  unfolding toldByte
-  named-byte t j h l = pick-yes _ _ _ (lt-ltb t (typesOn (configurationPage s)) (rw (page-types s) h)) ∙ page-header s t j h l
+  named-byte t j h l = told-byte (configurationPage s) t j (rw (page-types s) h) ∙ page-header s t j h l
 
-  past-byte : (t j : ℕ) → typesOf s ≤ t → toldByte (configurationPage s) j t ≡ 0
-  unfolding toldByte
-  past-byte t j h = pick-no _ _ _ (le-ltb t (typesOn (configurationPage s)) (rw (page-types s) h))
+  unnamed-byte : (t j : ℕ) → typesOf s ≤ t → toldByte (configurationPage s) j t ≡ 0
+  unnamed-byte t j h = past-byte (configurationPage s) t j (rw (page-types s) h)
 
   told-head : (t : ℕ) → t < mostTypes → headTold (configurationPage s) t ≡ fourAt s (typePlace t)
   unfolding headTold
@@ -204,9 +196,9 @@ module _ (s : List ℕ) (w : frontFormed s ≡ true) where
       past l =
           let z : getD s (typePlace t) 0 ≡ 0 = ap (λ (k : ℕ). getD s k 0) (sym (add-zero (typePlace t))) ∙ type-clear s w t 0 l h (omega arith) in
           rw (
-            past-byte t 0 l,
-            past-byte t 1 l,
-            past-byte t 3 l,
+            unnamed-byte t 0 l,
+            unnamed-byte t 1 l,
+            unnamed-byte t 3 l,
             z,
             type-clear s w t 1 l h (omega arith),
             type-clear s w t 2 l h (omega arith),
@@ -231,7 +223,7 @@ module _ (s : List ℕ) (w : frontFormed s ≡ true) where
       past : typesOf s ≤ t → textByte p t i ≡ getD s (textPlace t + i) 0
       past m =
           let q : typePlace t + (4 + i) ≡ textPlace t + i = omega arith in
-          pick-no _ _ _ (ap (ltb i) (past-byte t 3 m) ∙ le-ltb i 0 (omega arith))
+          pick-no _ _ _ (ap (ltb i) (unnamed-byte t 3 m) ∙ le-ltb i 0 (omega arith))
           ∙ sym (type-clear s w t (4 + i) m h (omega arith))
           ∙ ap (λ (k : ℕ). getD s k 0) q
 

@@ -1,7 +1,7 @@
 -- Where there is room, the rows that are put stand one after the other, and what stood behind them stays. Assumes nothing.
 use mathlib.Core.Path.{_≡_, refl, sym, ap, _∙_}
 use mathlib.Core.List.{List, [], _∷_, _++_, append-assoc, append-nil}
-use Prim.Native.Nat.{ℕ, zero, suc, _+_, _*_, _≤_, _-_, _/_, _%_}
+use Prim.Native.Nat.{ℕ, zero, suc, _+_, _*_, _<_, _≤_, _-_, _/_, _%_}
 use native.Mathlib.Nat.{add-zero}
 use native.Mathlib.Omega.{arith}
 use mathlib.Core.Bool.{Bool, true, false}
@@ -20,10 +20,25 @@ use Rattle.refusals.specs.declared.Written.the-variants as written
 use Rattle.refusals.specs.Outcomes.{fitted, outAfter}
 use Rattle.shelf.specs.Limits.{mostTypes, mostText, typeSize, typePlace, textPlace, elementPlace}
 use Rattle.shelf.specs.Types.{typesOf, typeCode, typeCount, textLength}
+use Rattle.opening.specs.Formed.{frontFormed}
+use Rattle.opening.proofs.Parts.{few-types, short-text}
 use Rattle.configuration.specs.Page.{headerPlace, typeHeader, textOf, textStart, configurationLength, fixedPart, configurationPage, fixedPut, headersPut, textsPut}
 use Rattle.configuration.specs.Read.{typesOn}
 use Rattle.configuration.specs.Told.{oneTold, toldByte, headTold, textTold, typeTold, configurationOf, typePut, typesPut, configurationPut}
-use Rattle.configuration.proofs.Runs.{length-run}
+use Rattle.configuration.proofs.Runs.{length-run, sum-part, sum-bound}
+
+-- of a well-formed front, each text stands in its place and on its page
+module _ (s : List ℕ) (w : frontFormed s ≡ true) where
+  pub text-there : (t : ℕ) → t < typesOf s → textPlace t + textLength s t ≤ typePlace mostTypes
+  text-there t h = omega (arith, few-types s w, short-text s w t h)
+
+  pub short : configurationLength s ≤ 336
+  unfolding configurationLength textStart
+  short = omega (arith, few-types s w, sum-bound (textLength s) mostText (typesOf s) (λ t l. short-text s w t l))
+
+pub text-in : (s : List ℕ) (t : ℕ) → t < typesOf s → textStart s t + textLength s t ≤ configurationLength s
+unfolding configurationLength textStart
+text-in s t h = omega (arith, sum-part (textLength s) (typesOf s) t h)
 
 -- a page that is written has room
 room : (n m : ℕ) {b : ℕ} → fitted n m ≡ written.Bytes b → (n ≤ m) × (fitted n m ≡ written.Bytes n)
@@ -115,6 +130,15 @@ page-fits s out h =
     ap (λ (o : List ℕ). textsPut s (headersPut s o n) n) (fixed-fits s out (configurationLength s - 4) (omega arith))
     ∙ ap (λ (o : List ℕ). textsPut s o n) (headers-fit s out f (length-fixed s (configurationLength s - 4)) n a)
     ∙ texts-fit s out (f ++ joined (typeHeader s) n) lg n h
+
+-- the page that is written has room for all its parts
+module _ (s out : List ℕ) {n b : ℕ} {w : Written} (en : n ≡ configurationLength s) (ef : w ≡ fitted n (length out)) (eb : w ≡ written.Bytes b) where
+  pub has-room : configurationLength s ≤ length out
+  has-room = rw en at (room n (length out) (sym ef ∙ eb) .0)
+
+  pub has-headers : headerPlace (typesOf s) ≤ length out
+  unfolding configurationLength
+  has-headers = omega (arith, has-room, headers-first s (typesOf s))
 
 -- there is a header
 pub not-empty : (s : List ℕ) {n : ℕ} → n ≡ configurationLength s → 4 ≤ n

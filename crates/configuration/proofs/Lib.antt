@@ -2,8 +2,10 @@ pub mod Runs
 pub mod Turns
 pub mod Fitted
 pub mod Tested
+pub mod Searched
+pub mod Passed
+pub mod Carried
 pub mod OnPage
 pub mod Back
-pub mod Passed
 pub mod Handed
 pub mod Again

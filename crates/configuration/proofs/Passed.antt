@@ -1,13 +1,13 @@
 -- What an accepted page says, part by part. Assumes nothing.
-use mathlib.Core.Path.{_≡_, sym, ap₂, _∙_}
+use mathlib.Core.Path.{_≡_, sym, _∙_}
 use mathlib.Core.Bool.{true, false, _&&_}
 use mathlib.Core.List.{List}
-use Prim.Native.Nat.{ℕ, _+_, _-_, _/_, _%_, _<_, _≤_}
+use Prim.Native.Nat.{ℕ, _+_, _<_, _≤_}
 use native.Mathlib.Omega.{arith}
 use lib.Dec.{eqb, leb}
 use lib.ListN.{length, getD}
-use borrow.Author.Tests.{eqb-true, not-false, lt-ltb, le-ltb}
-use Rattle.bits.proofs.Logic.{and-left, and-right, pick-yes, pick-no, first-fails}
+use borrow.Author.Tests.{eqb-true, not-false}
+use Rattle.bits.proofs.Logic.{and-left, and-right, first-fails}
 use Rattle.kinds.specs.Types.{served}
 use Rattle.refusals.specs.declared.Refusal.the-variants.{PageTooShort, PageCode, PageLength, NotAllowed}
 use Rattle.refusals.specs.declared.Answer.{Answer}
@@ -18,6 +18,7 @@ use Rattle.shelf.specs.Limits.{mostTypes, mostElements, mostInType, mostText}
 use Rattle.pages.specs.Header.{lengthSaid}
 use Rattle.configuration.specs.Page.{headerPlace}
 use Rattle.configuration.specs.Read.{typesOn, headerByte, totalBefore, textPlaceOn, neededLength, fixedOffends, headerOffends, textOffends, offends, firstOffence, configurationRead}
+use Rattle.configuration.proofs.Tested.{fixed-at, header-at, text-at}
 
 module _ (p : List ℕ) (a : configurationRead p ≡ Accepted) where
   passed : (eqb (getD p 0 0) 0x01 ≡ true) × (lengthSaid p ≡ true) × (eqb (length p) (neededLength p) ≡ true) × (eqb (firstOffence p) (length p) ≡ true)
@@ -48,14 +49,13 @@ module _ (p : List ℕ) (a : configurationRead p ≡ Accepted) where
   unfolding firstOffence
   fine k h = first-fails (offends p) (length p) k (rw (eqb-true (firstOffence p) (length p) (passed .3)) h)
 
-  headers-in : headerPlace (typesOn p) ≤ length p
+  pub headers-in : headerPlace (typesOn p) ≤ length p
   unfolding textPlaceOn
   headers-in = omega (arith, needed-passed)
 
   -- the first 48 bytes
   fixed-fine : (k : ℕ) → k < 48 → fixedOffends k (getD p k 0) ≡ false
-  unfolding offends
-  fixed-fine k h = sym (pick-yes _ _ _ (lt-ltb k 48 h)) ∙ fine k (omega (arith, headers-in))
+  fixed-fine k h = sym (fixed-at p k h) ∙ fine k (omega (arith, headers-in))
 
   pub byte-1 : getD p 1 0 ≡ 0
   unfolding fixedOffends
@@ -82,14 +82,7 @@ module _ (p : List ℕ) (a : configurationRead p ≡ Accepted) where
   -- a header
   module _ (t : ℕ) (h : t < typesOn p) where
     header-fine : (j : ℕ) → j < 4 → headerOffends p t j (headerByte p j t) ≡ false
-    unfolding offends
-    header-fine j l =
-        let k : ℕ = headerPlace t + j in
-        let q : (k - 48) / 4 ≡ t = omega arith in
-        let r : (k - 48) % 4 ≡ j = omega arith in
-        ap₂ (λ (x y : ℕ). headerOffends p x y (getD p k 0)) (sym q) (sym r)
-        ∙ sym (pick-no _ _ _ (le-ltb k 48 (omega arith)) ∙ pick-yes _ _ _ (lt-ltb k (headerPlace (typesOn p)) (omega arith)))
-        ∙ fine k (omega (arith, headers-in))
+    header-fine j l = sym (header-at p t j h l) ∙ fine (headerPlace t + j) (omega (arith, headers-in))
 
     pub code-served : served (headerByte p 0 t) ≡ true
     unfolding headerOffends
@@ -113,6 +106,5 @@ module _ (p : List ℕ) (a : configurationRead p ≡ Accepted) where
 
   -- the texts
   pub text-passed : (k : ℕ) → headerPlace (typesOn p) ≤ k → k < length p → leb 0x20 (getD p k 0) && leb (getD p k 0) 0x7e ≡ true
-  unfolding offends textOffends
-  text-passed k h l =
-      not-false _ (sym (pick-no _ _ _ (le-ltb k 48 (omega arith)) ∙ pick-no _ _ _ (le-ltb k (headerPlace (typesOn p)) h)) ∙ fine k l)
+  unfolding textOffends
+  text-passed k h l = not-false _ (sym (text-at p k h) ∙ fine k l)

@@ -1,13 +1,13 @@
 -- The tests of a configuration page: of one byte, and all of them one after the other. Assumes nothing.
-use mathlib.Core.Path.{_≡_, sym, ap, _∙_}
-use mathlib.Core.Bool.{Bool, true, false, not}
-use mathlib.Core.Logic.{_⊎_, inl, inr, ⊎-elim}
+use mathlib.Core.Path.{_≡_, sym, ap, ap₂, _∙_}
+use mathlib.Core.Bool.{true, false}
+use mathlib.Core.Logic.{_⊎_, inl, inr}
 use mathlib.Core.List.{List, _++_, append-nil}
-use Prim.Native.Nat.{ℕ, _-_, _/_, _%_, _<_, _≤_}
+use Prim.Native.Nat.{ℕ, _+_, _-_, _/_, _%_, _<_, _≤_}
 use native.Mathlib.Omega.{arith}
 use lib.Dec.{eqb, leb}
 use lib.ListN.{length, getD, drop-of-length-le}
-use borrow.Author.Tests.{lt-ltb, le-ltb, eq-eqb, ne-eqb}
+use borrow.Author.Tests.{lt-ltb, le-ltb, ne-eqb, leb-false}
 use Rattle.bits.specs.Choice.{firstBelow}
 use Rattle.bits.proofs.Logic.{pick-yes, pick-no}
 use Rattle.refusals.specs.declared.Refusal.the-variants.{PageTooShort, PageCode, PageLength, NotAllowed}
@@ -16,41 +16,42 @@ use Rattle.refusals.specs.Outcomes.{recordAfter}
 use Rattle.shelf.specs.Limits.{elementPlace}
 use Rattle.pages.specs.Header.{lengthSaid}
 use Rattle.configuration.specs.Page.{headerPlace}
-use Rattle.configuration.specs.Read.{typesOn, neededLength, fixedOffends, headerOffends, textOffends, offends, firstOffence, configurationRead}
+use Rattle.configuration.specs.Read.{typesOn, headerByte, textPlaceOn, neededLength, fixedOffends, headerOffends, textOffends, offends, firstOffence, configurationRead}
 use Rattle.configuration.specs.Told.{configurationOf, configurationPut}
 use Rattle.configuration.proofs.Fitted.{length-configuration, told-whole}
-
--- a byte that is zero on every page
-pub zero-offends : (k b : ℕ) → (k ≡ 1) ⊎ (k ≡ 9) → not (eqb b 0) ≡ fixedOffends k b
-unfolding fixedOffends
-zero-offends k b h = ⊎-elim (λ (e : k ≡ 1). rw (eq-eqb k 1 e)) (λ (e : k ≡ 9). rw (ne-eqb k 1 (λ q. omega arith), eq-eqb k 9 e)) h
 
 pub none-offends : (k b : ℕ) → ((k ≡ 1) ⊎ (k ≡ 9) → ⊥) → (k ≡ 8 → ⊥) → (k ≡ 10 → ⊥) → (k ≡ 11 → ⊥) → false ≡ fixedOffends k b
 unfolding fixedOffends
 none-offends k b h i j l = rw (ne-eqb k 1 (λ e. h (inl e)), ne-eqb k 9 (λ e. h (inr e)), ne-eqb k 8 i, ne-eqb k 10 j, ne-eqb k 11 l)
 
--- the three parts in which a byte may offend
-module _ (p : List ℕ) (k : ℕ) {r : Bool} where
-  pub offends-fixed : {x : ℕ} → x ≡ getD p k 0 → r ≡ fixedOffends k x → k < 48 → r ≡ offends p k
-  unfolding offends
-  offends-fixed ex er h = er ∙ rw ex (sym (pick-yes _ _ _ (lt-ltb k 48 h)))
+-- the three parts in which a byte may offend: before the headers, byte j of the header of type t, in a text
+pub fixed-at : (p : List ℕ) (k : ℕ) → k < 48 → offends p k ≡ fixedOffends k (getD p k 0)
+unfolding offends
+fixed-at p k h = pick-yes _ _ _ (lt-ltb k 48 h)
 
-  pub offends-header : {x n h : ℕ} → x ≡ getD p k 0 → 48 ≤ k → n ≡ typesOn p → h ≡ headerPlace n → k < h
-      → r ≡ headerOffends p ((k - 48) / 4) ((k - 48) % 4) x → r ≡ offends p k
-  unfolding offends
-  offends-header ex l en eh m er =
-      er ∙ rw ex (sym (pick-no _ _ _ (le-ltb k 48 l) ∙ pick-yes _ _ _ (lt-ltb k (headerPlace (typesOn p)) (rw (eh, en) at m))))
+pub header-at : (p : List ℕ) (t j : ℕ) → t < typesOn p → j < 4 → offends p (headerPlace t + j) ≡ headerOffends p t j (headerByte p j t)
+unfolding offends
+header-at p t j h l =
+    let k : ℕ = headerPlace t + j in
+    let q : (k - 48) / 4 ≡ t = omega arith in
+    let r : (k - 48) % 4 ≡ j = omega arith in
+    pick-no _ _ _ (le-ltb k 48 (omega arith))
+    ∙ pick-yes _ _ _ (lt-ltb k (headerPlace (typesOn p)) (omega arith))
+    ∙ ap₂ (λ (x y : ℕ). headerOffends p x y (getD p k 0)) q r
 
-  pub offends-text : {x n h : ℕ} → x ≡ getD p k 0 → 48 ≤ k → n ≡ typesOn p → h ≡ headerPlace n → h ≤ k
-      → r ≡ textOffends x → r ≡ offends p k
-  unfolding offends
-  offends-text ex l en eh m er =
-      er ∙ rw ex (sym (pick-no _ _ _ (le-ltb k 48 l) ∙ pick-no _ _ _ (le-ltb k (headerPlace (typesOn p)) (rw (eh, en) at m))))
+pub text-at : (p : List ℕ) (k : ℕ) → headerPlace (typesOn p) ≤ k → offends p k ≡ textOffends (getD p k 0)
+unfolding offends
+text-at p k h = pick-no _ _ _ (le-ltb k 48 (omega arith)) ∙ pick-no _ _ _ (le-ltb k (headerPlace (typesOn p)) h)
 
 -- the search ends where the page does
 pub found : (p : List ℕ) {n : ℕ} → length p ≡ n → firstBelow (offends p) n ≡ firstOffence p
 unfolding firstOffence
 found p e = rw e
+
+-- a page without all its headers is shorter than they need
+headers-needed : (p : List ℕ) → leb (headerPlace (typesOn p)) (length p) ≡ false → eqb (length p) (neededLength p) ≡ false
+unfolding neededLength textPlaceOn
+headers-needed p e = let l = leb-false (headerPlace (typesOn p)) (length p) e in ne-eqb (length p) (textPlaceOn p (typesOn p)) (λ q. omega arith)
 
 module _ (p : List ℕ) where
   pub too-short : leb 4 (length p) ≡ false → Refused PageTooShort ≡ configurationRead p
@@ -71,6 +72,9 @@ module _ (p : List ℕ) where
         pub other-needed : eqb (length p) (neededLength p) ≡ false → Refused PageLength ≡ configurationRead p
         unfolding configurationRead
         other-needed e = rw (e1, e2, e3, e)
+
+        pub no-headers : leb (headerPlace (typesOn p)) (length p) ≡ false → Refused PageLength ≡ configurationRead p
+        no-headers e = other-needed (headers-needed p e)
 
         module _ (e4 : eqb (length p) (neededLength p) ≡ true) where
           pub offended : eqb (firstOffence p) (length p) ≡ false → Refused NotAllowed ≡ configurationRead p

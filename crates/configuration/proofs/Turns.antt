@@ -2,12 +2,12 @@
 use mathlib.Core.Path.{_≡_, refl, sym, ap, _∙_}
 use mathlib.Core.Bool.{Bool, true, false}
 use mathlib.Core.List.{List, [], _∷_, _++_}
-use Prim.Native.Nat.{ℕ, suc, _+_, _/_, _%_, _<_}
+use Prim.Native.Nat.{ℕ, _+_, _/_, _%_}
 use native.Mathlib.Numerals.{add-one}
 use native.Mathlib.Omega.{arith}
 use lib.Dec.{leb}
-use lib.ListN.{length, getD, take, drop, set, length-append, length-drop}
-use lib.Seq.{length-take-le, take-all, drop-cons, set-at, append-snoc}
+use lib.ListN.{length, take, drop, length-append, length-drop}
+use lib.Seq.{length-take-le, take-all}
 use borrow.Author.Tests.{leb-true}
 use Rattle.bits.specs.Choice.{pick, sumBelow}
 use Rattle.bits.specs.Places.{fourAt, putFour}
@@ -17,10 +17,10 @@ use Rattle.bits.proofs.Rows.{length-joined, bytes-there}
 use Rattle.shelf.specs.Limits.{mostTypes, mostText, typePlace, textPlace}
 use Rattle.shelf.specs.Types.{typesOf, typeCode, typeCount, textLength}
 use Rattle.configuration.specs.Page.{headerPlace, textOf, textStart, fixedPut, headersPut, textsPut}
-use Rattle.configuration.specs.Read.{typesOn, headerByte, totalBefore}
+use Rattle.configuration.specs.Read.{typesOn, headerByte, totalBefore, textPlaceOn}
 use Rattle.configuration.specs.Told.{oneTold, headTold, textTold, typePut, typesPut, configurationPut}
 
-sum-next : (f : ℕ → ℕ) (n : ℕ) → sumBelow f (n + 1) ≡ sumBelow f n + f n
+pub sum-next : (f : ℕ → ℕ) (n : ℕ) → sumBelow f (n + 1) ≡ sumBelow f n + f n
 sum-next f n = ap (sumBelow f) (add-one n)
 
 pub start-none : (s : List ℕ) → textStart s 0 ≡ headerPlace (typesOf s)
@@ -30,6 +30,14 @@ start-none s = omega arith
 pub start-next : (s : List ℕ) (t : ℕ) {a n : ℕ} → a ≡ textStart s t → n ≡ textLength s t → a + n ≡ textStart s (t + 1)
 unfolding textStart
 start-next s t p q = omega (arith, sum-next (textLength s) t)
+
+pub place-none : (p : List ℕ) → textPlaceOn p 0 ≡ headerPlace (typesOn p)
+unfolding textPlaceOn totalBefore
+place-none p = omega arith
+
+pub place-next : (p : List ℕ) (t : ℕ) {a n : ℕ} → a ≡ textPlaceOn p t → n ≡ headerByte p 3 t → a + n ≡ textPlaceOn p (t + 1)
+unfolding textPlaceOn totalBefore
+place-next p t e q = omega (arith, sum-next (headerByte p 3) t)
 
 pub total-none : (p : List ℕ) (j : ℕ) → totalBefore p j 0 ≡ 0
 unfolding totalBefore
@@ -63,26 +71,18 @@ headers-next s out t {o} {h} {k} {a} {b} {n} l eo ea eb en ek eh = (
 )
 
 pub texts-next : (s out : List ℕ) (t : ℕ) {o h : List ℕ} {k a n : ℕ}
-    → length o ≡ length out → o ≡ textsPut s out t → k ≡ textPlace t → a ≡ textStart s t → n ≡ textLength s t
-    → h ≡ putBytes o a (bytesAt s k n) → (length h ≡ length out) × (h ≡ textsPut s out (t + 1))
+    → length o ≡ length out → a ≡ textStart s t → o ≡ textsPut s out t → n ≡ textLength s t → k ≡ textPlace t
+    → h ≡ putBytes o a (bytesAt s k n) → (length h ≡ length out) × (a + n ≡ textStart s (t + 1)) × (h ≡ textsPut s out (t + 1))
 unfolding textOf
-texts-next s out t {o} {h} {k} {a} {n} l eo ek ea en eh = (
+texts-next s out t {o} {h} {k} {a} {n} l ea eo en ek eh = (
   ap length eh ∙ length-put-bytes o a (bytesAt s k n) ∙ l,
+  start-next s t ea en,
   eh ∙ rw (eo, ek, ea, en) (ap (textsPut s out) (sym (add-one t))),
 )
 
 pub types-next : (p c : List ℕ) (t : ℕ) {o h : List ℕ} → length o ≡ length c → o ≡ typesPut p c t → h ≡ typePut p t o
     → (length h ≡ length c) × (h ≡ typesPut p c (t + 1))
 types-next p c t {o} l eo eh = (ap length eh ∙ length-type-put p t o ∙ l, eh ∙ rw eo (ap (typesPut p c) (sym (add-one t))))
-
--- one more byte of a row
-pub row-next : (f : ℕ → ℕ) (z : List ℕ) (i : ℕ) {v : ℕ} → i < length z → v ≡ f i
-    → set (joined (λ k. f k ∷ []) i ++ drop i z) i v ≡ joined (λ k. f k ∷ []) (i + 1) ++ drop (i + 1) z
-row-next f z i {v} h e =
-    let p = joined (λ k. f k ∷ []) i in
-    let l : length p ≡ i = length-joined (λ k. f k ∷ []) 1 (λ k. refl) i ∙ omega arith in
-    rw (drop-cons z i 0 h, add-one i, e)
-    (set-at p (getD z i 0) (drop (suc i) z) (f i) i l ∙ sym (append-snoc p (f i) (drop (suc i) z)))
 
 -- all bytes of a text
 whole : (p : List ℕ) (t : ℕ) → bytesAt (textTold p t) 0 32 ≡ textTold p t
@@ -100,10 +100,10 @@ unfolding fixedPut
 fixed-done s n out eb e1 ef e2 e3 e4 = e4 ∙ rw (e3, e2, e1, ef, eb)
 
 pub type-done : (p : List ℕ) (t : ℕ) (c : List ℕ) {a b : ℕ} {h x o1 o2 : List ℕ}
-    → a ≡ typePlace t → h ≡ headTold p t → o1 ≡ putFour c a h → x ≡ textTold p t → b ≡ textPlace t
+    → h ≡ headTold p t → x ≡ textTold p t → a ≡ typePlace t → o1 ≡ putFour c a h → b ≡ textPlace t
     → o2 ≡ putBytes o1 b (bytesAt x 0 32) → o2 ≡ typePut p t c
 unfolding typePut
-type-done p t c ea eh e1 ex eb e2 = e2 ∙ rw (e1, ea, eb, eh, ex) (ap (λ (f : List ℕ). putBytes (putFour c (typePlace t) (headTold p t)) (textPlace t) f) (whole p t))
+type-done p t c eh ex ea e1 eb e2 = e2 ∙ rw (e1, ea, eb, eh, ex) (ap (λ (f : List ℕ). putBytes (putFour c (typePlace t) (headTold p t)) (textPlace t) f) (whole p t))
 
 pub parts-done : (p c : List ℕ) {n : ℕ} {f o1 o2 o3 o4 : List ℕ}
     → n ≡ typesOn p → f ≡ fourAt p 4 → o1 ≡ putFour c 0 f → o2 ≡ putBytes o1 4 (bytesAt p 12 36)

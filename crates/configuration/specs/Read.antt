@@ -60,6 +60,10 @@ offends p k =
     (headerOffends p ((k - headerPlace 0) / 4) ((k - headerPlace 0) % 4) (getD p k 0))
     (textOffends (getD p k 0)))
 
+-- the first offending byte of the first n in page order, or n
+unfoldable pub offenceBelow : List ℕ → ℕ → ℕ
+offenceBelow p n = firstBelow (offends p) n
+
 -- the first offending byte in page order; the length of the page if there is none
 unfoldable pub firstOffence : List ℕ → ℕ
 firstOffence p = firstBelow (offends p) (length p)

@@ -3,15 +3,20 @@ use mathlib.Core.List.{List, [], _∷_, _++_}
 use Prim.Native.Nat.{ℕ, zero, suc, _+_}
 use lib.Dec.{ltb}
 use lib.ListN.{getD}
-use Rattle.bits.specs.Choice.{pick}
+use Rattle.bits.specs.Choice.{pick, sumBelow}
 use Rattle.bits.specs.Places.{fourAt, putFour}
 use Rattle.bits.specs.Rows.{joined, bytesAt, putBytes}
 use Rattle.shelf.specs.Limits.{mostTypes, mostText, typePlace, textPlace}
+use Rattle.configuration.specs.Page.{headerPlace}
 use Rattle.configuration.specs.Read.{typesOn, headerByte, textPlaceOn}
 
 -- byte j of the header of type t, zero past the last type
 unfoldable pub toldByte : List ℕ → ℕ → ℕ → ℕ
 toldByte p j t = pick (ltb t (typesOn p)) (headerByte p j t) 0
+
+-- where the text of type t starts; past the last type, where all texts end
+unfoldable pub toldStart : List ℕ → ℕ → ℕ
+toldStart p t = headerPlace (typesOn p) + sumBelow (toldByte p 3) t
 
 -- byte i of the text of type t, zero past its end
 unfoldable pub textByte : List ℕ → ℕ → ℕ → ℕ

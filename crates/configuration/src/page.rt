@@ -1,13 +1,17 @@
 // The configuration page, written. A shelf block and a configuration have the same front, so either can be lent.
 //
-// Nothing asks that the front is well formed: a page is written of whatever it says.
+// A caller has opened it before, so that nothing of it is tested again.
 use refusals::Written;
 use shelf::limits;
 use shelf::types;
 ghost use mathlib.Core.Path.{_≡_};
+ghost use Prim.Native.Nat.{_≤_};
 ghost use lib.ListN.{length};
 ghost use Rattle.refusals.specs.Outcomes.{fitted, outAfter};
-ghost use Rattle.configuration.specs.Page.{headerPlace, textStart, configurationLength, fixedPut, headersPut, textsPut, configurationPage};
+ghost use Rattle.shelf.specs.Limits.{mostTypes, HasTypes};
+ghost use Rattle.shelf.specs.Types.{typesOf};
+ghost use Rattle.opening.specs.Formed.{HasFront};
+ghost use Rattle.configuration.specs.Page.{headerPlace, configurationLength, fixedPut, headersPut, textsPut, configurationPage};
 
 pub const CODE: u8 = 0x01;
 
@@ -26,28 +30,25 @@ pub fn header_place(t: u16) -> u32
     FIRST_HEADER + 4 * t as u32
 }
 
-// The text of type t stands behind all headers and the texts before it.
-fn text_start(front: &[u8], t: u16) -> u32
-    ensures { λ r. ⌜ r ≡ textStart (now (front .entry)) t ⌝ }
-{
-    let mut at = header_place(types::count(front));
-    let mut i: u16 = 0;
-    while i < t {
-        at += types::text_length(front, i) as u32;
-        i += 1;
-    }
-    at
-}
-
-// How many bytes the page has.
-pub fn length(front: &[u8]) -> u32
+// How many bytes the page has: the texts stand behind all headers.
+fn length(front: &[u8]) -> u32
+    requires { ⌜ HasFront (now front) ⌝ }
     ensures { λ r. ⌜ r ≡ configurationLength (now (front .entry)) ⌝ }
 {
-    text_start(front, types::count(front))
+    let n = types::count(front);
+    let mut bytes = header_place(n);
+    let mut t: u16 = 0;
+    while t < n {
+        bytes += types::text_length(front, t) as u32;
+        t += 1;
+    }
+    bytes
 }
 
 // The part before the headers; n bytes follow the first four of the page.
 fn put_fixed(front: &[u8], n: u32, out: &mut [u8])
+    requires { ⌜ HasTypes (now front) ⌝ }
+    requires { ⌜ headerPlace 0 ≤ length (now out) ⌝ }
     ensures { λ _. ⌜ now (out .exit) ≡ fixedPut (now (front .entry)) n (now (out .entry)) ⌝ }
 {
     let first = [CODE, 0, (n / 256 % 256) as u8, (n % 256) as u8];
@@ -65,6 +66,9 @@ fn put_fixed(front: &[u8], n: u32, out: &mut [u8])
 }
 
 fn put_headers(front: &[u8], n: u16, out: &mut [u8])
+    requires { ⌜ HasTypes (now front) ⌝ }
+    requires { ⌜ n ≤ mostTypes ⌝ }
+    requires { ⌜ headerPlace n ≤ length (now out) ⌝ }
     ensures { λ _. ⌜ now (out .exit) ≡ headersPut (now (front .entry)) (now (out .entry)) n ⌝ }
 {
     let mut t: u16 = 0;
@@ -80,23 +84,25 @@ fn put_headers(front: &[u8], n: u16, out: &mut [u8])
     }
 }
 
+// Each text behind the one before it.
 fn put_texts(front: &[u8], n: u16, out: &mut [u8])
+    requires { ⌜ HasFront (now front) ⌝ }
+    requires { ⌜ n ≡ typesOf (now front) ⌝ }
+    requires { ⌜ configurationLength (now front) ≤ length (now out) ⌝ }
     ensures { λ _. ⌜ now (out .exit) ≡ textsPut (now (front .entry)) (now (out .entry)) n ⌝ }
 {
+    let mut at = header_place(n);
     let mut t: u16 = 0;
     while t < n {
-        bits::copy(
-            front,
-            limits::text_place(t),
-            out,
-            text_start(front, t),
-            types::text_length(front, t) as u32,
-        );
+        let bytes = types::text_length(front, t) as u32;
+        bits::copy(front, limits::text_place(t), out, at, bytes);
+        at += bytes;
         t += 1;
     }
 }
 
 pub fn write(front: &[u8], out: &mut [u8]) -> Written
+    requires { ⌜ HasFront (now front) ⌝ }
     ensures { λ r. ⌜ r ≡ fitted (length (configurationPage (now (front .entry)))) (length (now (out .entry))) ⌝ }
     ensures { λ r. ⌜ now (out .exit) ≡ outAfter r (configurationPage (now (front .entry))) (now (out .entry)) ⌝ }
 {

@@ -1,6 +1,7 @@
 // The configuration page, read: its tests, and the configuration that it tells.
 //
-// A byte past the end of a page reads as 0, so a page too short for what it says of itself is found by its length alone.
+// Nothing is read before the page's length says that it is there: first the bytes before the headers, then the headers, then the
+// texts.
 use crate::page;
 use kinds::types::Kind;
 use pages::header;
@@ -8,89 +9,112 @@ use refusals::Answer;
 use refusals::Refusal;
 use shelf::limits;
 ghost use mathlib.Core.Path.{_≡_};
-ghost use Prim.Native.Nat.{_+_};
+ghost use mathlib.Core.List.{_++_};
+ghost use Prim.Native.Nat.{_+_, _-_, _<_, _≤_};
+ghost use lib.Dec.{leb};
+ghost use lib.ListN.{length, replicate};
 ghost use Rattle.bits.specs.Choice.{firstBelow};
+ghost use Rattle.bits.specs.Places.{fourAt};
+ghost use Rattle.bits.specs.Rows.{bytesAt};
+ghost use Rattle.refusals.specs.declared.Answer.the-variants.{Accepted};
 ghost use Rattle.refusals.specs.Outcomes.{recordAfter};
-ghost use Rattle.shelf.specs.Limits.{mostTypes};
-ghost use Rattle.configuration.specs.Read.{typesOn, headerByte, totalBefore, textPlaceOn, neededLength, fixedOffends, headerOffends, textOffends, offends, configurationRead};
-ghost use Rattle.configuration.specs.Told.{toldByte, textByte, headTold, textTold, typePut, typesPut, configurationPut, configurationOf};
+ghost use Rattle.shelf.specs.Limits.{mostTypes, mostText, HasTypes};
+ghost use Rattle.configuration.specs.Page.{headerPlace};
+ghost use Rattle.configuration.specs.Read.{typesOn, neededLength, textOffends, offends, offenceBelow, configurationRead};
+ghost use Rattle.configuration.specs.Told.{toldByte, headTold, toldStart, typePut, typesPut, configurationPut, configurationOf};
 
 // Where a page has the number of types.
 const TYPES: u32 = 10;
 
-// Bytes of a header.
-const TYPE: u8 = 0;
-
-const COUNT: u8 = 1;
-
-const TEXT_LENGTH: u8 = 3;
-
-fn types_on(page: &[u8]) -> u8
+fn types_on(page: &[u8]) -> u16
+    requires { ⌜ headerPlace 0 ≤ length (now page) ⌝ }
     ensures { λ r. ⌜ r ≡ typesOn (now (page .entry)) ⌝ }
 {
-    bits::byte_at(page, TYPES)
+    bits::byte_at(page, TYPES) as u16
 }
 
-// Byte j of the header of type t.
-fn header_byte(page: &[u8], j: u8, t: u8) -> u8
-    ensures { λ r. ⌜ r ≡ headerByte (now (page .entry)) j t ⌝ }
+// The header of type t: its code, its count, a zero byte, the length of its text.
+fn header_on(page: &[u8], t: u16) -> [u8; 4]
+    requires { ⌜ headerPlace t + 4 ≤ length (now page) ⌝ }
+    ensures { λ r. ⌜ r ≡ fourAt (now (page .entry)) (headerPlace t) ⌝ }
 {
-    bits::byte_at(page, page::header_place(t as u16) + j as u32)
+    bits::four_at(page, page::header_place(t))
 }
 
-// The sum of byte j of the first n headers.
-fn total(page: &[u8], j: u8, n: u8) -> u16
-    ensures { λ r. ⌜ r ≡ totalBefore (now (page .entry)) j n ⌝ }
+// The headers of all its types stand on the page.
+fn has_headers(page: &[u8]) -> bool
+    ensures { λ r. ⌜ r ≡ leb (headerPlace (typesOn (now (page .entry)))) (length (now (page .entry))) ⌝ }
 {
-    let mut sum: u16 = 0;
-    let mut t: u8 = 0;
-    while t < n {
-        sum += header_byte(page, j, t) as u16;
-        t += 1;
+    if page.len() < page::FIRST_HEADER as usize {
+        return false;
     }
-    sum
+    page::header_place(types_on(page)) as usize <= page.len()
 }
 
-// Where byte i of the text of type t stands: behind all headers and the texts before it.
-fn text_place(page: &[u8], t: u8, i: u16) -> u32
-    ensures { λ r. ⌜ r ≡ textPlaceOn (now (page .entry)) t + i ⌝ }
-{
-    page::header_place(types_on(page) as u16) + total(page, TEXT_LENGTH, t) as u32 + i as u32
-}
-
-// The length that the type list needs.
+// The length that the type list needs: the texts stand behind all headers.
 fn needed_length(page: &[u8]) -> u32
+    requires { ⌜ headerPlace (typesOn (now page)) ≤ length (now page) ⌝ }
     ensures { λ r. ⌜ r ≡ neededLength (now (page .entry)) ⌝ }
 {
-    text_place(page, types_on(page), 0)
-}
-
-// A byte b before the headers that no well-formed shelf writes at k.
-fn fixed_offends(k: u32, b: u8) -> bool
-    ensures { λ r. ⌜ r ≡ fixedOffends k b ⌝ }
-{
-    match k {
-        1 | 9 => b != 0,
-        8 => b != page::PROCESS,
-        10 => !((1 <= b) & (b as u16 <= limits::MOST_TYPES)),
-        11 => b != page::DESCRIPTOR,
-        _ => false,
+    let n = types_on(page);
+    let mut bytes = page::header_place(n);
+    let mut t: u16 = 0;
+    while t < n {
+        let e = header_on(page, t);
+        bytes += e[3] as u32;
+        t += 1;
     }
+    bytes
 }
 
-// A byte b that none writes as byte j of the header of type t. A total too large is told at the count that passes it.
-fn header_offends(page: &[u8], t: u8, j: u32, b: u8) -> bool
-    ensures { λ r. ⌜ r ≡ headerOffends (now (page .entry)) t j b ⌝ }
+// The first offending byte before the headers, or where these start. What a well-formed shelf couldn't have written offends.
+fn fixed_offence(page: &[u8]) -> u32
+    requires { ⌜ headerPlace 0 ≤ length (now page) ⌝ }
+    ensures { λ r. ⌜ r ≡ offenceBelow (now (page .entry)) (headerPlace 0) ⌝ }
 {
-    match j {
-        0 => !Kind::is_served(b),
-        1 => {
-            let elements = total(page, COUNT, t) as u32 + b as u32;
-            !((b <= limits::MOST_IN_TYPE) & (elements <= limits::MOST_ELEMENTS as u32))
+    if bits::byte_at(page, 1) != 0 {
+        return 1;
+    }
+    if bits::byte_at(page, 8) != page::PROCESS {
+        return 8;
+    }
+    if bits::byte_at(page, 9) != 0 {
+        return 9;
+    }
+    let types = types_on(page);
+    if !((1 <= types) & (types <= limits::MOST_TYPES)) {
+        return TYPES;
+    }
+    if bits::byte_at(page, 11) != page::DESCRIPTOR {
+        return 11;
+    }
+    page::FIRST_HEADER
+}
+
+// The first up to the end of the n headers, or that end. A total too large is told at the count that passes it.
+fn headers_offence(page: &[u8], n: u16) -> u32
+    requires { ⌜ n ≡ typesOn (now page) ⌝ }
+    requires { ⌜ headerPlace n ≤ length (now page) ⌝ }
+    requires { ⌜ offenceBelow (now page) (headerPlace 0) ≡ headerPlace 0 ⌝ }
+    ensures { λ r. ⌜ r ≡ offenceBelow (now (page .entry)) (headerPlace n) ⌝ }
+{
+    let mut elements: u16 = 0;
+    let mut t: u16 = 0;
+    while t < n {
+        let e = header_on(page, t);
+        elements += e[1] as u16;
+        let k = bits::first_of(
+            Kind::is_served(e[0]),
+            (e[1] <= limits::MOST_IN_TYPE) & (elements <= limits::MOST_ELEMENTS),
+            e[2] == 0,
+            e[3] as u16 <= limits::MOST_TEXT,
+        );
+        if k < 4 {
+            return page::header_place(t) + k as u32;
         }
-        2 => b != 0,
-        _ => !(b as u16 <= limits::MOST_TEXT),
+        t += 1;
     }
+    page::header_place(n)
 }
 
 fn text_offends(b: u8) -> bool
@@ -99,32 +123,41 @@ fn text_offends(b: u8) -> bool
     !((0x20 <= b) & (b <= 0x7e))
 }
 
-fn offends(page: &[u8], k: u32) -> bool
-    ensures { λ r. ⌜ r ≡ offends (now (page .entry)) k ⌝ }
+// The first of n bytes, or n. The texts start at `from`, and nothing before them offends.
+fn texts_offence(page: &[u8], from: u32, n: u32) -> u32
+    requires { ⌜ from ≡ headerPlace (typesOn (now page)) ⌝ }
+    requires { ⌜ n ≤ length (now page) ⌝ }
+    requires { ⌜ from ≤ n ⌝ }
+    requires { ⌜ offenceBelow (now page) from ≡ from ⌝ }
+    ensures { λ r. ⌜ r ≡ offenceBelow (now (page .entry)) n ⌝ }
 {
-    let b = bits::byte_at(page, k);
-    if k < page::FIRST_HEADER {
-        return fixed_offends(k, b);
-    }
-    if k < page::header_place(types_on(page) as u16) {
-        let i = k - page::FIRST_HEADER;
-        return header_offends(page, (i / 4) as u8, i % 4, b);
-    }
-    text_offends(b)
-}
-
-// The first offending byte of n, or n.
-fn first_offence(page: &[u8], n: u32) -> u32
-    ensures { λ r. ⌜ r ≡ firstBelow (offends (now (page .entry))) n ⌝ }
-{
-    let mut k: u32 = 0;
+    let mut k = from;
     while k < n {
-        if offends(page, k) {
+        if text_offends(bits::byte_at(page, k)) {
             return k;
         }
         k += 1;
     }
     k
+}
+
+// The first offending byte of n, or n.
+fn first_offence(page: &[u8], n: u32) -> u32
+    requires { ⌜ headerPlace (typesOn (now page)) ≤ n ⌝ }
+    requires { ⌜ n ≤ length (now page) ⌝ }
+    ensures { λ r. ⌜ r ≡ firstBelow (offends (now (page .entry))) n ⌝ }
+{
+    let fixed = fixed_offence(page);
+    if fixed != page::FIRST_HEADER {
+        return fixed;
+    }
+    let types = types_on(page);
+    let end = page::header_place(types);
+    let header = headers_offence(page, types);
+    if header != end {
+        return header;
+    }
+    texts_offence(page, end, n)
 }
 
 pub fn test(page: &[u8]) -> Answer
@@ -139,6 +172,9 @@ pub fn test(page: &[u8]) -> Answer
     if !header::says_its_length(page) {
         return Answer::Refused(Refusal::PageLength);
     }
+    if !has_headers(page) {
+        return Answer::Refused(Refusal::PageLength);
+    }
     let n = needed_length(page);
     if page.len() != n as usize {
         return Answer::Refused(Refusal::PageLength);
@@ -149,84 +185,73 @@ pub fn test(page: &[u8]) -> Answer
     Answer::Accepted
 }
 
-// Byte j of the header of type t, 0 past the last type.
-fn told_byte(page: &[u8], j: u8, t: u8) -> u8
-    ensures { λ r. ⌜ r ≡ toldByte (now (page .entry)) j t ⌝ }
-{
-    if t < types_on(page) {
-        header_byte(page, j, t)
-    } else {
-        0
-    }
-}
-
-// Byte i of the text of type t, 0 past its end.
-fn text_byte(page: &[u8], t: u8, i: u16) -> u8
-    ensures { λ r. ⌜ r ≡ textByte (now (page .entry)) t i ⌝ }
-{
-    if i < told_byte(page, TEXT_LENGTH, t) as u16 {
-        bits::byte_at(page, text_place(page, t, i))
-    } else {
-        0
-    }
-}
-
-fn head_told(page: &[u8], t: u8) -> [u8; 4]
+// What a configuration has of type t before its text; zeros past the last type.
+fn head_told(page: &[u8], t: u16) -> [u8; 4]
+    requires { ⌜ headerPlace (typesOn (now page)) ≤ length (now page) ⌝ }
     ensures { λ r. ⌜ r ≡ headTold (now (page .entry)) t ⌝ }
 {
-    [
-        told_byte(page, TYPE, t),
-        told_byte(page, COUNT, t),
-        told_byte(page, TEXT_LENGTH, t),
-        0,
-    ]
+    if t < types_on(page) {
+        let e = header_on(page, t);
+        [e[0], e[1], e[3], 0]
+    } else {
+        [0, 0, 0, 0]
+    }
 }
 
-fn text_told(page: &[u8], t: u8) -> [u8; limits::MOST_TEXT as usize]
-    ensures { λ r. ⌜ r ≡ textTold (now (page .entry)) t ⌝ }
+// The text of n bytes that starts here, zeros behind it.
+fn text_told(page: &[u8], start: u32, n: u32) -> [u8; limits::MOST_TEXT as usize]
+    requires { ⌜ start + n ≤ length (now page) ⌝ }
+    requires { ⌜ n ≤ mostText ⌝ }
+    ensures { λ r. ⌜ r ≡ bytesAt (now (page .entry)) start n ++ replicate (mostText - n) 0 ⌝ }
 {
     let mut text = [0; limits::MOST_TEXT as usize];
-    let mut i: u16 = 0;
-    while i < limits::MOST_TEXT {
-        text[i as usize] = text_byte(page, t, i);
-        i += 1;
-    }
+    bits::copy(page, start, &mut text, 0, n);
     text
 }
 
-fn put_type(page: &[u8], t: u8, configuration: &mut [u8])
+// Puts type t, whose text starts here, and tells how long that is.
+fn put_type(page: &[u8], t: u16, start: u32, configuration: &mut [u8]) -> u32
+    requires { ⌜ configurationRead (now page) ≡ Accepted ⌝ }
+    requires { ⌜ t < mostTypes ⌝ }
+    requires { ⌜ start ≡ toldStart (now page) t ⌝ }
+    requires { ⌜ HasTypes (now configuration) ⌝ }
+    ensures { λ r. ⌜ r ≡ toldByte (now (page .entry)) 3 t ⌝ }
     ensures { λ _. ⌜ now (configuration .exit) ≡ typePut (now (page .entry)) t (now (configuration .entry)) ⌝ }
 {
-    bits::put_four(
-        configuration,
-        limits::type_place(t as u16),
-        head_told(page, t),
-    );
-    let text = text_told(page, t);
+    let head = head_told(page, t);
+    let bytes = head[2] as u32;
+    let text = text_told(page, start, bytes);
+    bits::put_four(configuration, limits::type_place(t), head);
     bits::copy(
         &text,
         0,
         configuration,
-        limits::text_place(t as u16),
+        limits::text_place(t),
         limits::MOST_TEXT as u32,
     );
+    bytes
 }
 
 fn put_types(page: &[u8], configuration: &mut [u8])
+    requires { ⌜ configurationRead (now page) ≡ Accepted ⌝ }
+    requires { ⌜ HasTypes (now configuration) ⌝ }
     ensures { λ _. ⌜ now (configuration .exit) ≡ typesPut (now (page .entry)) (now (configuration .entry)) mostTypes ⌝ }
 {
-    let mut t: u8 = 0;
-    while (t as u16) < limits::MOST_TYPES {
-        put_type(page, t, configuration);
+    let mut start = page::header_place(types_on(page));
+    let mut t: u16 = 0;
+    while t < limits::MOST_TYPES {
+        start += put_type(page, t, start, configuration);
         t += 1;
     }
 }
 
-// The configuration that a page tells, whether or not it passes the tests.
+// The configuration that an accepted page tells.
 fn put(page: &[u8], configuration: &mut [u8])
+    requires { ⌜ configurationRead (now page) ≡ Accepted ⌝ }
+    requires { ⌜ HasTypes (now configuration) ⌝ }
     ensures { λ _. ⌜ now (configuration .exit) ≡ configurationPut (now (page .entry)) (now (configuration .entry)) ⌝ }
 {
-    let types = [types_on(page), 0, 0, 0];
+    let types = [bits::byte_at(page, TYPES), 0, 0, 0];
     bits::put_four(configuration, limits::GENERATION, bits::four_at(page, 4));
     bits::copy(
         page,

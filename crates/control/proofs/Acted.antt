@@ -19,21 +19,25 @@ use Rattle.kinds.proofs.Settled.{settled-length}
 use Rattle.refusals.specs.declared.Answer.{Answer}
 use Rattle.refusals.specs.declared.Refusal.{Refusal}
 use Rattle.refusals.specs.declared.Answer.the-variants.{Accepted, Refused}
-use Rattle.shelf.specs.Limits.{elementPlace}
+use Rattle.shelf.specs.Limits.{elementPlace, HasElement}
 use Rattle.shelf.specs.Types.{elementsOf}
 use Rattle.shelf.specs.Elements.{settingsAt, settingsPut}
+use Rattle.opening.proofs.Fronts.{front}
 use Rattle.opening.proofs.Changed.{front-after, row-later}
 use Rattle.pages.specs.declared.places.Places.{Places}
-use Rattle.pages.specs.Places.{placesOf}
-use Rattle.pages.proofs.Paired.{places-alike}
+use Rattle.pages.specs.Places.{placesOf, HasSlots}
+use Rattle.pages.specs.Header.{HasPage}
+use Rattle.pages.proofs.HeadAgain.{asked-has}
+use Rattle.pages.proofs.Paired.{places-alike, element-there}
 use Rattle.control.specs.Asked.{controlAsked, valid}
+use Rattle.control.proofs.Valid.{valid-headed}
 use Rattle.control.specs.Brought.{actingAt, settingsAfter, broughtTo, withSettings}
 
 -- one element
-module _ (s p : List ℕ) (j : ℕ) {at : Places} {a b : List ℕ} {overall own c : Control} (q : at ≡ placesOf s j) (ha : a ≡ fourAt p (at .overall))
-    (u : overall ≡ controlOf (at .kind) a) (hb : b ≡ fourAt p (at .own)) (v : own ≡ controlOf (at .kind) b) (w : c ≡ chosen overall own) where
+module _ (s p : List ℕ) (j : ℕ) {at : Places} {a b : List ℕ} {c : Control} (q : at ≡ placesOf s j) (ha : a ≡ fourAt p (at .overall))
+    (hb : b ≡ fourAt p (at .own)) (w : c ≡ chosen (controlOf (at .kind) a) (controlOf (at .kind) b)) where
   acting : c ≡ actingAt p (placesOf s j)
-  acting = w ∙ rw (u, v, ha, hb, q)
+  acting = w ∙ rw (ha, hb, q)
 
   pub left-alone : c .select ≡ false → s ≡ settingsPut s j (settingsAfter s p j)
   unfolding settingsAfter settled settingsAt settingsPut
@@ -73,6 +77,14 @@ module _ (s p : List ℕ) where
   act-next j {x} l e h =
       fours-next elementPlace (settingsAfter s p) s j e refl (ap (λ (z : List ℕ). settingsAfter z p j) e ∙ same-after j l) h
 
+  -- nor the front, and so the walk; and there are the bytes that are read for it: its own, and its two slots
+  module _ (j : ℕ) {x : List ℕ} (e : x ≡ partly j) where
+    pub same-front : front x ≡ front s
+    same-front = ap front e ∙ front-after elementPlace 0 settings-place (omega arith) (settingsAfter s p) s j
+
+    pub act-room : HasPage s p → j < elementsOf s → HasElement x j × HasSlots p (placesOf x j)
+    act-room h l = element-there s p h x same-front (fours-length elementPlace (settingsAfter s p) s j e) j l
+
   pub partly-length : (n : ℕ) {x : List ℕ} → x ≡ partly n → length x ≡ length s
   partly-length n e = fours-length elementPlace (settingsAfter s p) s n e
 
@@ -85,6 +97,10 @@ module _ (s p : List ℕ) where
     pub refused-after : {r : Refusal} → a ≡ Refused r → s ≡ pick (valid s p) (withSettings s (broughtTo s p)) s
     unfolding valid
     refused-after u = sym (rw (← h, u))
+
+    pub accepted-room : a ≡ Accepted → HasPage s p
+    unfolding valid
+    accepted-room u = let v : valid s p ≡ true = rw (← h, u) in asked-has s p 0x02 (valid-headed s p v)
 
     pub accepted-after : {x : List ℕ} → a ≡ Accepted → x ≡ withSettings s (broughtTo s p) → x ≡ pick (valid s p) (withSettings s (broughtTo s p)) s
     unfolding valid

@@ -2,9 +2,10 @@
 use mathlib.Core.Path.{_≡_, sym, _∙_}
 use mathlib.Core.Bool.{true, false}
 use mathlib.Core.List.{List, [], _∷_}
-use Prim.Native.Nat.{ℕ, _+_, _<_}
+use Prim.Native.Nat.{ℕ, _+_, _<_, _≤_}
+use native.Mathlib.Omega.{arith}
 use lib.Dec.{eqb}
-use lib.ListN.{getD}
+use lib.ListN.{length, getD}
 use Rattle.bits.specs.Choice.{allBelow, refusedIn}
 use Rattle.bits.specs.Bits.{only}
 use Rattle.bits.specs.Places.{fourAt}
@@ -15,15 +16,17 @@ use Rattle.refusals.specs.declared.Refusal.{Refusal}
 use Rattle.refusals.specs.declared.Refusal.the-variants.{NotAllowed}
 use Rattle.refusals.specs.declared.Answer.{Answer}
 use Rattle.refusals.specs.declared.Answer.the-variants.{Accepted, Refused}
-use Rattle.pages.specs.declared.slots.Slot.{Slot}
-use Rattle.pages.specs.Slots.{slotsOf, slotAt, slotPlace}
+use Rattle.opening.specs.Formed.{HasFront}
+use Rattle.pages.specs.declared.slots.SlotRun.{SlotRun}
+use Rattle.pages.specs.Slots.{slotsOf, slotPlace, slotRun}
+use Rattle.pages.proofs.Walked.{run-kind}
 use Rattle.pages.specs.Header.{pageAsked}
+use Rattle.pages.proofs.Paired.{page-has, page-front}
 use Rattle.control.specs.Asked.{slotOffending, offence, controlAsked}
 
-pub slot-offends : (s p : List ℕ) (i : ℕ) {at : Slot} {k n : ℕ} {e : List ℕ} → at ≡ slotAt s i → k ≡ slotPlace i → e ≡ fourAt p k
-    → n ≡ offending (at .kind) e → n ≡ slotOffending s p i
+pub slot-offends : (s p : List ℕ) (i : ℕ) {r : SlotRun} {n : ℕ} → r ≡ slotRun s i → n ≡ offending (r .kind) (fourAt p (slotPlace i)) → n ≡ slotOffending s p i
 unfolding slotOffending
-slot-offends s p i q u h r = r ∙ rw (q, h, u)
+slot-offends s p i q h = h ∙ rw (run-kind s i q)
 
 module _ (s p : List ℕ) (n : ℕ) where
   pub first-byte-refused : only (3 ∷ 2 ∷ 1 ∷ 0 ∷ []) (getD p 1 0) ≡ false → 1 ≡ offence s p n
@@ -45,6 +48,10 @@ module _ (s p : List ℕ) {a : Answer} (h : a ≡ pageAsked s p 0x02) where
   pub page-refused : {r : Refusal} → a ≡ Refused r → a ≡ controlAsked s p
   unfolding controlAsked
   page-refused u = u ∙ sym (rw (← h, u))
+
+  -- the bytes that are read after the header's tests
+  pub page-room : {n : ℕ} → a ≡ Accepted → n ≡ slotsOf s → HasFront s × ((n ≤ slotsOf s) × (slotPlace n ≤ length p))
+  page-room u q = (page-front s p 0x02 h u, (omega arith, omega (arith, page-has s p 0x02 h u .1)))
 
   module _ (u : a ≡ Accepted) {n k m : ℕ} (q : n ≡ slotsOf s) (x : k ≡ offence s p n) (y : m ≡ slotPlace n) where
     pub byte-refused : eqb k m ≡ false → Refused NotAllowed ≡ controlAsked s p

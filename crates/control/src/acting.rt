@@ -2,21 +2,29 @@
 use kinds::control::Control;
 use kinds::settings::Settings;
 use pages::places;
+use pages::places::Places;
 use shelf::elements;
 use shelf::types;
 ghost use mathlib.Core.Path.{_≡_};
+ghost use Rattle.shelf.specs.Limits.{HasElement};
 ghost use Rattle.shelf.specs.Elements.{settingsPut};
+ghost use Rattle.pages.specs.Places.{placesOf, HasSlots};
+ghost use Rattle.pages.specs.Header.{HasPage};
 ghost use Rattle.control.specs.Brought.{settingsAfter, broughtTo, withSettings};
 
 // The settings of element j are put only if something acts on it.
-fn act_on(shelf: &mut [u8], page: &[u8], j: u16)
+fn act_on(shelf: &mut [u8], page: &[u8], at: Places, j: u16)
+    requires { ⌜ HasElement (now shelf) j ⌝ }
+    requires { ⌜ HasSlots (now page) at ⌝ }
+    requires { ⌜ at ≡ placesOf (now shelf) j ⌝ }
     ensures { λ _. ⌜ now (shelf .exit) ≡ settingsPut (now (shelf .entry)) j (settingsAfter (now (shelf .entry)) (now (page .entry)) j) ⌝ }
 {
-    let at = places::places_of(shelf, j);
     let kind = at.kind;
-    let overall = Control::of(kind, bits::four_at(page, at.overall));
-    let own = Control::of(kind, bits::four_at(page, at.own));
-    let control = Control::chosen(overall, own);
+    let control = Control::chosen(
+        kind,
+        bits::four_at(page, at.overall),
+        bits::four_at(page, at.own),
+    );
     if control.select {
         let set = control.act(Settings::of(kind, elements::settings_at(shelf, j)));
         elements::put_settings(shelf, j, set.bytes(kind));
@@ -24,12 +32,16 @@ fn act_on(shelf: &mut [u8], page: &[u8], j: u16)
 }
 
 pub fn act(shelf: &mut [u8], page: &[u8])
+    requires { ⌜ HasPage (now shelf) (now page) ⌝ }
     ensures { λ _. ⌜ now (shelf .exit) ≡ withSettings (now (shelf .entry)) (broughtTo (now (shelf .entry)) (now (page .entry))) ⌝ }
 {
     let n = types::all_elements(shelf);
+    let mut run = types::first_run(shelf);
     let mut j: u16 = 0;
     while j < n {
-        act_on(shelf, page, j);
+        let here = types::run_to(shelf, run, j);
+        run = here;
+        act_on(shelf, page, places::places_in(here, j), j);
         j += 1;
     }
 }

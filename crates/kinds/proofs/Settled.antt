@@ -6,7 +6,7 @@ use Prim.Native.Nat.{ℕ}
 use lib.Dec.{eqb}
 use lib.ListN.{length}
 use Rattle.bits.specs.Choice.{pick}
-use Rattle.bits.proofs.Logic.{and-left}
+use Rattle.bits.proofs.Logic.{and-left, pick-yes, pick-no}
 use Rattle.kinds.specs.declared.types.Kind.{Kind}
 use Rattle.kinds.specs.declared.settings.Settings.{Settings}
 use Rattle.kinds.specs.declared.control.Control.{Control}
@@ -47,6 +47,16 @@ settled-length k c e h = go (c .select)
     go : (t : Bool) → length (pick t (settingsBytes k (acted c (settingsOf k e))) e) ≡ 4
     go true = length-bytes k (acted c (settingsOf k e))
     go false = h
+
+-- which of two acts, from what is read of the individual one
+module _ {a own : Control} (e : a ≡ own) where
+  pub own-acts : (overall : Control) → a .select ≡ true → a ≡ chosen overall own
+  unfolding chosen
+  own-acts overall h = e ∙ sym (pick-yes (own .select) own overall (sym (ap (λ (x : Control). x .select) e) ∙ h))
+
+  pub overall-acts : {b overall : Control} → a .select ≡ false → b ≡ overall → b ≡ chosen overall own
+  unfolding chosen
+  overall-acts {b} {overall} h q = q ∙ sym (pick-no (own .select) own overall (sym (ap (λ (x : Control). x .select) e) ∙ h))
 
 module _ (k : Kind) where
   -- what acts is the unselected element or one that asks for settings of the type

@@ -66,10 +66,16 @@ impl Control {
         }
     }
 
-    pub fn chosen(overall: Control, own: Control) -> Control
-        ensures { λ r. ⌜ r ≡ chosen overall own ⌝ }
+    // The overall element is decoded only where an element is left to it.
+    pub fn chosen(kind: Kind, overall: [u8; 4], own: [u8; 4]) -> Control
+        ensures { λ r. ⌜ r ≡ chosen (controlOf kind overall) (controlOf kind own) ⌝ }
     {
-        if own.select { own } else { overall }
+        let alone = Control::of(kind, own);
+        if alone.select {
+            alone
+        } else {
+            Control::of(kind, overall)
+        }
     }
 
     // What a selected element makes of settings.

@@ -2,10 +2,11 @@
 use mathlib.Core.Path.{_≡_, refl, sym, ap, _∙_}
 use mathlib.Core.Bool.{Bool, true, false, _&&_}
 use mathlib.Core.List.{List}
-use Prim.Native.Nat.{ℕ}
+use Prim.Native.Nat.{ℕ, _<_}
 use native.Mathlib.Omega.{arith}
 use lib.Dec.{leb, eqb}
 use lib.ListN.{length}
+use borrow.Author.Tests.{eq-eqb, ne-eqb}
 use Rattle.bits.proofs.Logic.{and-both}
 use Rattle.opening.specs.declared.Sizes.{Sizes}
 use Rattle.opening.specs.declared.Opened.the-variants.{Shelf, NotWellFormed}
@@ -16,6 +17,10 @@ use Rattle.opening.specs.Formed.{headFormed, typesFormed, elementsFormed
 no-right : (a b : Bool) → b ≡ false → a && b ≡ false
 no-right true b e = e
 no-right false b e = refl
+
+with-right : (a b : Bool) → b ≡ true → a ≡ a && b
+with-right true b e = sym e
+with-right false b e = refl
 
 -- what an answer says of the test behind it
 module _ (s : List ℕ) where
@@ -72,10 +77,6 @@ module _ (s : List ℕ) where
     unfolding fronted opened wellFormed
     no-front = no (wellFormed s) (rw (said-no (frontFormed s) f))
 
-    pub no-front-configuration : NotWellFormed ≡ configurationOpened s
-    unfolding fronted configurationOpened configurationFormed
-    no-front-configuration = no (configurationFormed s) (rw (said-no (frontFormed s) f))
-
   module _ {z : Sizes} (f : fronted s ≡ Shelf z) where
     at-front : (frontFormed s ≡ true) × (z .types ≡ typesOf s) × (z .elements ≡ elementsOf s)
     unfolding fronted
@@ -99,10 +100,18 @@ module _ (s : List ℕ) where
         (and-both (and-both (at-front .0) (ap (λ n. eqb (length s) (elementPlace n)) (sym (at-front .2)) ∙ l))
         (ap (elementsFormed s) (sym (at-front .2)) ∙ e))
 
-    pub is-configuration : eqb (length s) (elementPlace 0) ≡ true → Shelf z ≡ configurationOpened s
-    unfolding configurationOpened configurationFormed
-    is-configuration l = yes (configurationFormed s) (at-front .1) (at-front .2) (and-both (at-front .0) l)
+  -- a block that ends before its first element could start
+  pub too-short : length s < elementPlace 0 → NotWellFormed ≡ opened s
+  unfolding opened wellFormed
+  too-short h =
+      no (wellFormed s)
+      (rw (no-right (frontFormed s) (eqb (length s) (elementPlace (elementsOf s))) (ne-eqb (length s) (elementPlace (elementsOf s)) (λ e. omega arith))))
 
-  pub no-configuration : eqb (length s) (elementPlace 0) ≡ false → NotWellFormed ≡ configurationOpened s
+  pub is-configuration : length s ≡ elementPlace 0 → fronted s ≡ configurationOpened s
+  unfolding fronted configurationOpened configurationFormed
+  is-configuration l =
+      ap (λ b. sizesIf b s) (with-right (frontFormed s) (eqb (length s) (elementPlace 0)) (eq-eqb (length s) (elementPlace 0) l))
+
+  pub no-configuration : (length s ≡ elementPlace 0 → ⊥) → NotWellFormed ≡ configurationOpened s
   unfolding configurationOpened configurationFormed
-  no-configuration l = no (configurationFormed s) (no-right (frontFormed s) (eqb (length s) (elementPlace 0)) l)
+  no-configuration l = no (configurationFormed s) (no-right (frontFormed s) (eqb (length s) (elementPlace 0)) (ne-eqb (length s) (elementPlace 0) l))

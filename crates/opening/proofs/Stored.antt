@@ -9,10 +9,15 @@ use lib.ListN.{length, getD}
 use borrow.Author.Tests.{eqb-true}
 use Rattle.bits.proofs.Logic.{and-left, and-right}
 use Rattle.bits.proofs.Placed.{Outside, length-put, put-other, put-back}
-use Rattle.shelf.specs.Limits.{elementPlace}
+use Rattle.shelf.specs.Limits.{mostTypes, elementPlace}
 use Rattle.shelf.specs.Types.{elementsOf}
 use Rattle.shelf.specs.Elements.{settingsAt, thresholdsAt, settingsPut, thresholdsPut}
-use Rattle.opening.specs.Formed.{frontFormed, elementsFormed, wellFormed}
+use Rattle.opening.specs.declared.Sizes.{Sizes}
+use Rattle.opening.specs.declared.Opened.the-variants.{Shelf}
+use Rattle.opening.specs.Formed.{frontFormed, elementsFormed, wellFormed, opened}
+use Rattle.opening.proofs.Stages.{formed-sizes}
+use Rattle.opening.proofs.Parts.{few-types}
+use Rattle.opening.proofs.Typed.{front-formed}
 
 -- a well-formed shelf has just the bytes that its elements need
 pub length-formed : (s : List ℕ) → wellFormed s ≡ true → length s ≡ elementPlace (elementsOf s)
@@ -20,6 +25,12 @@ unfolding wellFormed
 length-formed s h =
     let l = eqb (length s) (elementPlace (elementsOf s)) in
     eqb-true (length s) (elementPlace (elementsOf s)) (and-right (frontFormed s) l (and-left (frontFormed s && l) (elementsFormed s (elementsOf s)) h))
+
+-- what is opened has its types and all its elements
+pub opened-there : (s : List ℕ) {z : Sizes} → opened s ≡ Shelf z → (z .types ≤ mostTypes) × (elementPlace (z .elements) ≤ length s)
+opened-there s e =
+    let q = formed-sizes s e in
+    (omega (arith, q .1, few-types s (front-formed s (q .0))), omega (arith, q .2, length-formed s (q .0)))
 
 -- so all sixteen bytes of each element stand in the block
 pub room : (s : List ℕ) (j : ℕ) → wellFormed s ≡ true → j < elementsOf s → elementPlace j + 16 ≤ length s

@@ -1,5 +1,6 @@
 -- Well-formed shelves. Assumes nothing.
-use mathlib.Core.Bool.{Bool, _&&_}
+use mathlib.Core.Path.{_≡_}
+use mathlib.Core.Bool.{Bool, true, _&&_}
 use mathlib.Core.List.{List}
 use Prim.Native.Nat.{ℕ, _+_}
 use lib.Dec.{eqb, leb, ltb}
@@ -10,7 +11,7 @@ use Rattle.kinds.specs.Settings.{settingsFormed}
 use Rattle.verdicts.specs.Thresholds.{had, ordered}
 use Rattle.opening.specs.declared.Opened.{Opened}
 use Rattle.opening.specs.declared.Opened.the-variants.{Shelf, NotWellFormed}
-use Rattle.shelf.specs.Limits.{mostTypes, mostElements, mostInType, mostText, typeSize, typePlace, textPlace, elementPlace}
+use Rattle.shelf.specs.Limits.{mostTypes, mostElements, mostInType, mostText, typeSize, typePlace, textPlace, elementPlace, HasTypes}
 use Rattle.shelf.specs.Types.{typesOf, typeCode, typeCount, textLength, elementsOf, kindAt}
 use Rattle.shelf.specs.Elements.{settingsAt, thresholdsAt, readingAt, nominalAt, spareAt}
 
@@ -72,6 +73,10 @@ elementsFormed s n = allBelow (elementFormed s) n
 -- what a configuration tells: the types, and not too many elements in all
 unfoldable pub frontFormed : List ℕ → Bool
 frontFormed s = (headFormed s && typesFormed s (typesOf s)) && leb (elementsOf s) mostElements
+
+-- the same, of a block that has these bytes
+abbrev pub HasFront : List ℕ → Type 0
+HasFront s = (frontFormed s ≡ true) × HasTypes s
 
 -- the block has just the bytes that its elements need, and each of them is formed
 unfoldable pub wellFormed : List ℕ → Bool

@@ -6,6 +6,12 @@ use shelf::limits;
 use shelf::types;
 use verdicts::thresholds;
 ghost use mathlib.Core.Path.{_≡_};
+ghost use mathlib.Core.Bool.{true};
+ghost use Prim.Native.Nat.{_≤_};
+ghost use lib.ListN.{length};
+ghost use Rattle.bits.specs.Choice.{allBelow};
+ghost use Rattle.shelf.specs.Limits.{mostText, elementPlace, HasTypes, HasText, HasElement};
+ghost use Rattle.shelf.specs.Types.{textLength, kindAt};
 ghost use Rattle.opening.specs.Formed.{headFormed, textByteFormed, textFormed, typeFormed, typeEmpty, slotFormed, typesFormed, spareClear, elementFormed, elementsFormed, fronted, opened, configurationOpened};
 
 // How many types and elements a well-formed shelf has.
@@ -22,6 +28,9 @@ pub enum Opened {
 pub fn open_shelf(shelf: &[u8]) -> Opened
     ensures { λ r. ⌜ r ≡ opened (now (shelf .entry)) ⌝ }
 {
+    if shelf.len() < limits::CONFIGURATION {
+        return Opened::NotWellFormed;
+    }
     let front = front(shelf);
     let Opened::Shelf(sizes) = front else {
         return Opened::NotWellFormed;
@@ -40,12 +49,8 @@ pub fn open_shelf(shelf: &[u8]) -> Opened
 pub fn open_configuration(configuration: &[u8]) -> Opened
     ensures { λ r. ⌜ r ≡ configurationOpened (now (configuration .entry)) ⌝ }
 {
-    let front = front(configuration);
-    let Opened::Shelf(sizes) = front else {
-        return Opened::NotWellFormed;
-    };
-    if configuration.len() == limits::block_length(0) {
-        Opened::Shelf(sizes)
+    if configuration.len() == limits::CONFIGURATION {
+        front(configuration)
     } else {
         Opened::NotWellFormed
     }
@@ -53,6 +58,7 @@ pub fn open_configuration(configuration: &[u8]) -> Opened
 
 // What a configuration tells is well formed, whatever stands behind it.
 fn front(shelf: &[u8]) -> Opened
+    requires { ⌜ HasTypes (now shelf) ⌝ }
     ensures { λ r. ⌜ r ≡ fronted (now (shelf .entry)) ⌝ }
 {
     let types = types::count(shelf);
@@ -66,30 +72,24 @@ fn front(shelf: &[u8]) -> Opened
 
 // There is a type, there are not too many, and the three bytes after their number are zero.
 fn head_formed(shelf: &[u8]) -> bool
+    requires { ⌜ HasTypes (now shelf) ⌝ }
     ensures { λ r. ⌜ r ≡ headFormed (now (shelf .entry)) ⌝ }
 {
     let e = bits::four_at(shelf, limits::TYPES);
     (1 <= e[0]) & (e[0] as u16 <= limits::MOST_TYPES) & (e[1] == 0) & (e[2] == 0) & (e[3] == 0)
 }
 
-// A byte of type t's text is printable, or zero past the text's end.
-fn text_byte_formed(shelf: &[u8], t: u16, i: u16) -> bool
-    ensures { λ r. ⌜ r ≡ textByteFormed (now (shelf .entry)) t i ⌝ }
-{
-    let b = bits::byte_at(shelf, limits::text_place(t) + i as u32);
-    if i < types::text_length(shelf, t) as u16 {
-        (0x20 <= b) & (b <= 0x7e)
-    } else {
-        b == 0
-    }
-}
-
-fn text_formed(shelf: &[u8], t: u16) -> bool
-    ensures { λ r. ⌜ r ≡ textFormed (now (shelf .entry)) t ⌝ }
+// The text of type t, n bytes long, is printable.
+fn text_printable(shelf: &[u8], t: u16, n: u16) -> bool
+    requires { ⌜ HasText (now shelf) t ⌝ }
+    requires { ⌜ n ≤ mostText ⌝ }
+    requires { ⌜ n ≡ textLength (now shelf) t ⌝ }
+    ensures { λ r. ⌜ r ≡ allBelow (textByteFormed (now (shelf .entry)) t) n ⌝ }
 {
     let mut i: u16 = 0;
-    while i < limits::MOST_TEXT {
-        if !text_byte_formed(shelf, t, i) {
+    while i < n {
+        let b = bits::byte_at(shelf, limits::text_place(t) + i as u32);
+        if !((0x20 <= b) & (b <= 0x7e)) {
             return false;
         }
         i += 1;
@@ -97,19 +97,52 @@ fn text_formed(shelf: &[u8], t: u16) -> bool
     true
 }
 
+// Zeros stand after its end.
+fn text_ended(shelf: &[u8], t: u16, n: u16) -> bool
+    requires { ⌜ HasText (now shelf) t ⌝ }
+    requires { ⌜ n ≤ mostText ⌝ }
+    requires { ⌜ n ≡ textLength (now shelf) t ⌝ }
+    requires { ⌜ allBelow (textByteFormed (now shelf) t) n ≡ true ⌝ }
+    ensures { λ r. ⌜ r ≡ textFormed (now (shelf .entry)) t ⌝ }
+{
+    let mut i = n;
+    while i < limits::MOST_TEXT {
+        if bits::byte_at(shelf, limits::text_place(t) + i as u32) != 0 {
+            return false;
+        }
+        i += 1;
+    }
+    true
+}
+
+fn text_formed(shelf: &[u8], t: u16, n: u16) -> bool
+    requires { ⌜ HasText (now shelf) t ⌝ }
+    requires { ⌜ n ≤ mostText ⌝ }
+    requires { ⌜ n ≡ textLength (now shelf) t ⌝ }
+    ensures { λ r. ⌜ r ≡ textFormed (now (shelf .entry)) t ⌝ }
+{
+    if text_printable(shelf, t, n) {
+        text_ended(shelf, t, n)
+    } else {
+        false
+    }
+}
+
 fn type_formed(shelf: &[u8], t: u16) -> bool
+    requires { ⌜ HasText (now shelf) t ⌝ }
     ensures { λ r. ⌜ r ≡ typeFormed (now (shelf .entry)) t ⌝ }
 {
     let e = bits::four_at(shelf, limits::type_place(t));
-    Kind::is_served(e[0])
-        & (e[1] <= limits::MOST_IN_TYPE)
-        & (e[2] as u16 <= limits::MOST_TEXT)
-        & (e[3] == 0)
-        & text_formed(shelf, t)
+    let n = e[2] as u16;
+    if limits::MOST_TEXT < n {
+        return false;
+    }
+    Kind::is_served(e[0]) & (e[1] <= limits::MOST_IN_TYPE) & (e[3] == 0) & text_formed(shelf, t, n)
 }
 
 // Past the last type all bytes are zero.
 fn type_empty(shelf: &[u8], t: u16) -> bool
+    requires { ⌜ HasText (now shelf) t ⌝ }
     ensures { λ r. ⌜ r ≡ typeEmpty (now (shelf .entry)) t ⌝ }
 {
     let mut i: u16 = 0;
@@ -123,6 +156,7 @@ fn type_empty(shelf: &[u8], t: u16) -> bool
 }
 
 fn slot_formed(shelf: &[u8], n: u16, t: u16) -> bool
+    requires { ⌜ HasText (now shelf) t ⌝ }
     ensures { λ r. ⌜ r ≡ slotFormed (now (shelf .entry)) n t ⌝ }
 {
     if t < n {
@@ -133,6 +167,7 @@ fn slot_formed(shelf: &[u8], n: u16, t: u16) -> bool
 }
 
 fn types_formed(shelf: &[u8], n: u16) -> bool
+    requires { ⌜ HasTypes (now shelf) ⌝ }
     ensures { λ r. ⌜ r ≡ typesFormed (now (shelf .entry)) n ⌝ }
 {
     let mut t: u16 = 0;
@@ -145,10 +180,11 @@ fn types_formed(shelf: &[u8], n: u16) -> bool
     true
 }
 
-fn element_formed(shelf: &[u8], j: u16) -> bool
+fn element_formed(shelf: &[u8], kind: Kind, j: u16) -> bool
+    requires { ⌜ HasElement (now shelf) j ⌝ }
+    requires { ⌜ kind ≡ kindAt (now shelf) j ⌝ }
     ensures { λ r. ⌜ r ≡ elementFormed (now (shelf .entry)) j ⌝ }
 {
-    let kind = types::kind_at(shelf, j);
     let t = elements::thresholds_at(shelf, j);
     settings::are_formed(kind, elements::settings_at(shelf, j))
         & thresholds::are_had(kind, t)
@@ -160,6 +196,7 @@ fn element_formed(shelf: &[u8], j: u16) -> bool
 
 // The last four bytes of an element are zero.
 fn spare_clear(shelf: &[u8], j: u16) -> bool
+    requires { ⌜ HasElement (now shelf) j ⌝ }
     ensures { λ r. ⌜ r ≡ spareClear (now (shelf .entry)) j ⌝ }
 {
     let e = bits::four_at(shelf, limits::element_place(j) + 12);
@@ -167,11 +204,16 @@ fn spare_clear(shelf: &[u8], j: u16) -> bool
 }
 
 fn elements_formed(shelf: &[u8], n: u16) -> bool
+    requires { ⌜ elementPlace n ≤ length (now shelf) ⌝ }
     ensures { λ r. ⌜ r ≡ elementsFormed (now (shelf .entry)) n ⌝ }
 {
+    let mut run = types::first_run(shelf);
     let mut j: u16 = 0;
     while j < n {
-        if !element_formed(shelf, j) {
+        let here = types::run_to(shelf, run, j);
+        run = here;
+        let kind = here.kind;
+        if !element_formed(shelf, kind, j) {
             return false;
         }
         j += 1;

@@ -6,16 +6,28 @@ use Prim.Native.Nat.{ℕ, _+_, _≤_}
 use native.Mathlib.Omega.{arith}
 use lib.Dec.{eqb}
 use lib.ListN.{length}
-use Rattle.bits.proofs.Logic.{and-left}
+use borrow.Author.Tests.{eqb-true}
+use Rattle.bits.proofs.Logic.{and-left, and-right}
 use Rattle.shelf.specs.Limits.{mostTypes, mostElements, elementPlace}
-use Rattle.opening.specs.Formed.{frontFormed, configurationFormed}
+use Rattle.opening.specs.Formed.{frontFormed, HasFront, wellFormed, configurationFormed}
 use Rattle.opening.proofs.Parts.{few-types, few-elements}
+use Rattle.opening.proofs.Typed.{front-formed}
+use Rattle.opening.proofs.Stored.{length-formed}
 use Rattle.pages.specs.Slots.{slotsOf}
 
 module _ (c : List ℕ) where
   pub configuration-front : configurationFormed c ≡ true → frontFormed c ≡ true
   unfolding configurationFormed
   configuration-front h = and-left (frontFormed c) (eqb (length c) (elementPlace 0)) h
+
+  -- of a shelf and of a configuration all types are there
+  pub shelf-there : wellFormed c ≡ true → HasFront c
+  shelf-there h = (front-formed c h, omega (arith, length-formed c h))
+
+  pub configuration-there : configurationFormed c ≡ true → HasFront c
+  unfolding configurationFormed
+  configuration-there h =
+      (configuration-front h, omega (arith, eqb-true (length c) (elementPlace 0) (and-right (frontFormed c) (eqb (length c) (elementPlace 0)) h)))
 
   module _ (h : frontFormed c ≡ true) where
     pub slots-bound : slotsOf c ≤ mostTypes + mostElements

@@ -28,6 +28,9 @@ fits-bytes k room {m} e = go (leb k room) refl e
     go true l q = (leb-true k room l, let r : m ≡ k = cc in r)
     go false l q = let z : _≡_ {A = ℕ} 0 1 = cc in absurd (omega arith)
 
+pub page-room : (n k room : ℕ) {m : ℕ} {w : Written} → k ≡ slotPlace n → w ≡ fitted k room → w ≡ Bytes m → slotPlace n ≤ room
+page-room n k room p q e = rw p at (fits-bytes k room (sym q ∙ e) .0)
+
 -- a refusal leaves the output buffer as it was
 pub out-kept : {w : Written} {r : Refusal} (page out : List ℕ) → w ≡ Refused r → out ≡ outAfter w page out
 out-kept page out e = rw e

@@ -5,10 +5,10 @@ use mathlib.Core.List.{List}
 use Prim.Native.Nat.{ℕ, zero, suc, _+_, _<_, _≤_, _-_}
 use native.Mathlib.Nat.{add-zero}
 use native.Mathlib.Omega.{arith}
-use lib.Dec.{ltb}
-use borrow.Author.Tests.{ltb-true, ltb-false, lt-ltb, le-ltb, eq-eqb}
+use lib.Dec.{eqb, ltb}
+use borrow.Author.Tests.{ltb-true, ltb-false, lt-ltb, le-ltb, eq-eqb, eqb-true}
 use Rattle.bits.specs.Choice.{firstBelow}
-use Rattle.bits.proofs.Logic.{never, pick-no, first-same, fails, below-all, first-fails, first-at}
+use Rattle.bits.proofs.Logic.{never, by-case, pick-no, first-same, fails, below-all, first-fails, first-at}
 use Rattle.kinds.specs.Types.{kindOf}
 use Rattle.shelf.specs.Limits.{mostTypes}
 use Rattle.shelf.specs.Types.{typeCode, before, elementsOf, within, typeOf, kindAt}
@@ -17,7 +17,7 @@ use Rattle.shelf.proofs.Counts.{before-next}
 use Rattle.opening.proofs.Fronts.{front, front-get, types-same, code-same, count-same, before-same, elements-same}
 use Rattle.pages.specs.Slots.{slotsOf, startOf, inType, slotType, isOverall, slotAt}
 use Rattle.pages.specs.Header.{header}
-use Rattle.pages.proofs.Slotted.{start-below, type-ends}
+use Rattle.pages.proofs.Slotted.{start-below, type-ends, types-below}
 use Rattle.opening.proofs.Parts.{few-types}
 
 module _ (s : List ℕ) where
@@ -54,7 +54,7 @@ module _ (s : List ℕ) where
       (lt-ltb j (before s (t + 1)) b)
 
   module _ (w : frontFormed s ≡ true) (i : ℕ) (h : i < slotsOf s) where
-    in-last : i < startOf s mostTypes
+    pub in-last : i < startOf s mostTypes
     unfolding slotsOf startOf elementsOf
     in-last = omega (arith, few-types s w, h)
 
@@ -71,8 +71,23 @@ module _ (s : List ℕ) where
             let q = first-fails (inType s i) mostTypes (mostTypes - 1) (omega arith) in
             never (sym p ∙ q)
 
-    slot-end : i < startOf s (slotType s i + 1)
+    pub slot-end : i < startOf s (slotType s i + 1)
     slot-end = type-ends s i slot-below
+
+    -- and so are the elements of that type, and those that the slot is for
+    type-there : before s (slotType s i + 1) ≤ elementsOf s
+    unfolding elementsOf
+    type-there =
+        let t = slotType s i in
+        let e : mostTypes ≡ t + 1 + (mostTypes - (t + 1)) = omega (arith, slot-below) in
+        rw (← e) at (before-up (t + 1) (mostTypes - (t + 1)))
+
+    pub end-there : slotAt s i .end ≤ elementsOf s
+    unfolding slotAt isOverall startOf
+    end-there =
+        let t = slotType s i in
+        let n = before s t + t in
+        by-case (eqb i n) (λ b. rw b (omega (arith, eqb-true i n b, before-next s t, type-there))) (λ b. rw b (omega (arith, slot-end, type-there)))
 
     -- the front has the same slot
     pub slot-same : slotAt (front s) i ≡ slotAt s i
@@ -93,6 +108,13 @@ module _ (s : List ℕ) where
       unfolding slotAt
       first-is = pick-no _ _ _ o
 
+      pub first-within : slotAt s i .first < slotAt s i .end
+      unfolding slotAt
+      first-within =
+          let t = slotType s i in
+          let e : slotAt s i .end ≡ i - t = pick-no _ _ _ o in
+          omega (arith, first-is, e, after-start, types-below s t)
+
       pub first-typed : typeOf s (slotAt s i .first) ≡ slotType s i
       unfolding startOf
       first-typed =
@@ -101,12 +123,8 @@ module _ (s : List ℕ) where
           (typed t (i - t - 1) slot-below (omega (arith, after-start)) (omega (arith, after-start, slot-end)))
 
       pub first-there : slotAt s i .first < elementsOf s
-      unfolding elementsOf startOf
-      first-there =
-          let t = slotType s i in
-          let e : mostTypes ≡ t + 1 + (mostTypes - (t + 1)) = omega (arith, slot-below) in
-          let u : before s (t + 1) ≤ before s mostTypes = rw (← e) at (before-up (t + 1) (mostTypes - (t + 1))) in
-          rw first-is (omega (arith, after-start, slot-end, u))
+      unfolding startOf
+      first-there = rw first-is (omega (arith, after-start, slot-end, type-there))
 
       pub kind-first : kindAt s (slotAt s i .first) ≡ slotAt s i .kind
       unfolding kindAt slotAt

@@ -16,10 +16,10 @@ use Rattle.refusals.specs.declared.Refusal.the-variants.{PageTooShort, PageCode
 use Rattle.refusals.specs.declared.Answer.{Answer}
 use Rattle.refusals.specs.declared.Answer.the-variants.{Accepted}
 use Rattle.refusals.specs.Outcomes.{unless}
-use Rattle.refusals.proofs.Passed.{held}
-use Rattle.pages.specs.Slots.{slotPlace}
-use Rattle.pages.specs.Header.{lengthSaid, generationOn, generationOf, headed, header}
-use Rattle.pages.proofs.Headed.{head-passed}
+use Rattle.refusals.proofs.Passed.{held, held-both}
+use Rattle.pages.specs.Slots.{slotsOf, slotPlace}
+use Rattle.pages.specs.Header.{shelfAsked, pageAsked, HasPage, lengthSaid, generationOn, generationOf, headed, header}
+use Rattle.pages.proofs.Headed.{head-passed, asked-formed}
 use Rattle.pages.proofs.Filled.{length-page}
 
 -- each byte of a list of bytes is one
@@ -74,6 +74,13 @@ module _ (c p : List ℕ) (code n : ℕ) (a : headed c p code n ≡ Accepted) wh
       ∙ ap (λ (x : ℕ). getD p 0 0 ∷ x ∷ (bytes 2 (slotPlace n - 4) ++ fourAt c 0)) o
       ∙ ap₂ (λ (x y : List ℕ). getD p 0 0 ∷ getD p 1 0 ∷ (x ++ y)) l g
       ∙ sym t1
+
+-- an accepted page and its shelf have all the bytes that are read after the tests
+pub asked-has : (s p : List ℕ) (code : ℕ) → pageAsked s p code ≡ Accepted → HasPage s p
+unfolding pageAsked
+asked-has s p code e =
+    let h = held-both (shelfAsked s) (headed s p code (slotsOf s)) e .1 in
+    (asked-formed s p code e, omega (arith, length-tested s p code (slotsOf s) h))
 
 -- a page that was written under the same generation code passes
 pub head-written : (f : ℕ → List ℕ) → ((i : ℕ) → length (f i) ≡ 4) → (c : List ℕ) (code own n : ℕ) → slotPlace n < 65540

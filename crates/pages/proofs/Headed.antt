@@ -9,12 +9,15 @@ use lib.ListN.{length, getD, drop}
 use Rattle.bits.specs.Numbers.{bytes}
 use Rattle.bits.specs.Places.{fourAt, putFour}
 use Rattle.bits.proofs.Rows.{put-next}
+use Rattle.bits.proofs.Placed.{length-put}
 use Rattle.refusals.specs.declared.Refusal.the-variants.{ShelfNotWellFormed, PageTooShort, PageCode, PageLength, Generation}
 use Rattle.refusals.specs.declared.Refusal.{Refusal}
 use Rattle.refusals.specs.declared.Answer.{Answer}
 use Rattle.refusals.specs.declared.Answer.the-variants.{Accepted, Refused}
 use Rattle.refusals.proofs.Passed.{held, held-both}
+use Rattle.shelf.specs.Limits.{HasTypes}
 use Rattle.opening.specs.Formed.{wellFormed}
+use Rattle.opening.proofs.Stored.{length-formed}
 use Rattle.pages.specs.Slots.{slotsOf, slotPlace}
 use Rattle.pages.specs.Header.{shelfAsked, pageAsked, lengthSaid, generationOn, generationOf, headed, header, headPut}
 
@@ -53,6 +56,12 @@ pub head-is : (c out : List ℕ) (code own n : ℕ) {l : ℕ} {f o1 o2 : List �
 unfolding headPut
 head-is c out code own n p q r s = s ∙ rw (q, r, p)
 
+pub head-length : (c out : List ℕ) (code own n : ℕ) {o : List ℕ} → o ≡ headPut c out code own n → length o ≡ length out
+unfolding headPut
+head-length c out code own n e =
+    let f : List ℕ = code ∷ own ∷ bytes 2 (slotPlace n - 4) in
+    ap length e ∙ length-put (putFour out 0 f) 4 (fourAt c 0) ∙ length-put out 0 f
+
 -- it stands before what stood behind it
 pub head-put : (c out : List ℕ) (code own n : ℕ) → 8 ≤ length out → headPut c out code own n ≡ header c code own n ++ drop 8 out
 unfolding headPut header
@@ -71,6 +80,13 @@ module _ (s p : List ℕ) (code : ℕ) {a : Answer} (h : a ≡ shelfAsked s) whe
   pub page-asked : {b : Answer} {n : ℕ} → a ≡ Accepted → n ≡ slotsOf s → b ≡ headed s p code n → b ≡ pageAsked s p code
   unfolding pageAsked
   page-asked u q e = e ∙ sym (rw (← h, u, ← q))
+
+-- an accepted shelf is well formed, and has all its types
+pub shelf-formed : (s : List ℕ) {a : Answer} → a ≡ shelfAsked s → a ≡ Accepted → wellFormed s ≡ true
+shelf-formed s h u = held (wellFormed s) ShelfNotWellFormed Accepted (sym h ∙ u) .0
+
+pub shelf-has : (s : List ℕ) {a : Answer} → a ≡ shelfAsked s → a ≡ Accepted → HasTypes s
+shelf-has s h u = omega (arith, length-formed s (shelf-formed s h u))
 
 -- what an accepted page says of the shelf
 pub asked-formed : (s p : List ℕ) (code : ℕ) → pageAsked s p code ≡ Accepted → wellFormed s ≡ true

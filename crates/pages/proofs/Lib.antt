@@ -5,6 +5,7 @@ pub mod Filled
 pub mod Bounds
 pub mod Fitted
 pub mod Fronted
+pub mod HeadAgain
 pub mod Paired
 pub mod Alike
-pub mod HeadAgain
+pub mod Walked

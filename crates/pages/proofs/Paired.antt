@@ -1,35 +1,32 @@
--- The two slots of an element: from what the calls say, that they are there and of its type, and on shelves with the same front.
+-- The two slots of an element: that they are there and of its type, and the same on shelves with the same front.
 -- Assumes nothing.
-use mathlib.Core.Path.{_≡_, ap, _∙_}
+use mathlib.Core.Path.{_≡_, sym, ap, _∙_}
 use mathlib.Core.Bool.{true, not}
 use mathlib.Core.List.{List}
-use Prim.Native.Nat.{ℕ, zero, suc, _+_, _*_, _<_, _≤_, _-_}
+use Prim.Native.Nat.{ℕ, zero, suc, _+_, _<_, _≤_, _-_}
 use native.Mathlib.Nat.{add-zero}
 use native.Mathlib.Omega.{arith}
+use lib.ListN.{length}
 use borrow.Author.Tests.{lt-ltb, le-ltb}
 use Rattle.bits.proofs.Logic.{fails, below-all, first-at}
-use Rattle.kinds.specs.declared.types.Kind.{Kind}
 use Rattle.kinds.specs.Types.{kindOf}
-use Rattle.shelf.specs.declared.types.Typed.{Typed}
-use Rattle.shelf.specs.Types.{typeCode, elementsOf, typeOf, typedAt, kindAt}
-use Rattle.shelf.specs.Limits.{mostTypes}
-use Rattle.shelf.proofs.Counts.{kind-is}
-use Rattle.opening.specs.Formed.{frontFormed}
+use Rattle.refusals.specs.declared.Answer.{Answer}
+use Rattle.refusals.specs.declared.Answer.the-variants.{Accepted}
+use Rattle.shelf.specs.Types.{typeCode, elementsOf, typeOf, kindAt}
+use Rattle.shelf.specs.Limits.{mostTypes, HasElement}
+use Rattle.opening.specs.Formed.{frontFormed, HasFront, wellFormed}
+use Rattle.opening.proofs.Stored.{length-formed, room}
 use Rattle.opening.proofs.Fronts.{front, before-alike, type-alike, kind-alike}
-use Rattle.opening.proofs.Typed.{type-below, type-start, type-end, type-named}
-use Rattle.pages.specs.Slots.{slotsOf, startOf, inType, slotType, slotAt, slotPlace}
+use Rattle.opening.proofs.Typed.{front-formed, type-below, type-start, type-end, type-named}
+use Rattle.pages.specs.declared.places.Places.{Places}
+use Rattle.pages.specs.declared.slots.Slot.{Slot}
+use Rattle.pages.specs.Slots.{slotsOf, startOf, inType, slotType, slotAt, HasElements}
 use Rattle.pages.proofs.Counted.{start-next}
-use Rattle.pages.specs.Places.{ownSlot, overallSlot, placesOf}
-
-pub places-are : (c : List ℕ) (j : ℕ) {x : Typed} {b o m : ℕ} {k : Kind} → x ≡ typedAt c j → b ≡ typeCode c (x .number) → k ≡ kindOf b
-    → o ≡ slotPlace (x .before + x .number) → m ≡ slotPlace j → record { kind = k; overall = o; own = m + 4 * (x .number + 1) } ≡ placesOf c j
-unfolding placesOf startOf
-places-are c j {x} {b} {o} {m} p q h u v =
-    let kind = kind-is c j p q h in
-    let overall : o ≡ slotPlace (overallSlot c j) = u ∙ ap (λ (y : Typed). slotPlace (y .before + y .number)) p in
-    let number : x .number ≡ typeOf c j = ap (λ (y : Typed). y .number) p in
-    let own : m + 4 * (x .number + 1) ≡ slotPlace (ownSlot c j) = omega (arith, v, number) in
-    λ i. record { kind = kind i; overall = overall i; own = own i }
+use Rattle.pages.specs.Places.{ownSlot, overallSlot, placesOf, HasSlots}
+use Rattle.pages.specs.Header.{pageAsked, HasPage}
+use Rattle.pages.proofs.Fronted.{first-within, end-there}
+use Rattle.pages.proofs.Bounds.{shelf-there}
+use Rattle.pages.proofs.HeadAgain.{asked-has}
 
 pub places-alike : (s x : List ℕ) → front x ≡ front s → (j : ℕ) → j < elementsOf s → placesOf x j ≡ placesOf s j
 unfolding placesOf startOf
@@ -84,3 +81,29 @@ module _ (s : List ℕ) where
       pub overall-there : overallSlot s j < slotsOf s
       unfolding slotsOf startOf
       overall-there = omega (arith, type-start s j l, type-named s j w l)
+
+-- what is read of a shelf and a page for it: the front, and of an element its own bytes and its two slots, also once others were acted on
+module _ (s p : List ℕ) (h : HasPage s p) where
+  pub front-there : HasFront s
+  front-there = shelf-there s (h .0)
+
+  pub element-there : (x : List ℕ) → front x ≡ front s → length x ≡ length s → (j : ℕ) → j < elementsOf s → HasElement x j × HasSlots p (placesOf x j)
+  unfolding placesOf
+  element-there x e m j l =
+      let f = front-there .0 in
+      let a = places-alike s x e j l in
+      (omega (arith, room s j (h .0) l), (omega (arith, ap (λ (q : Places). q .overall) a, overall-there s j l f), omega (arith, ap (λ (q : Places). q .own) a, own-there s j l f)))
+
+-- and what is read for a slot
+pub slot-has : (s : List ℕ) → wellFormed s ≡ true → (i : ℕ) → i < slotsOf s → {at : Slot} → at ≡ slotAt s i → HasElements s at
+slot-has s w i l e =
+    let f = front-formed s w in
+    rw e (omega (arith, length-formed s w, end-there s f i l), λ o. first-within s f i l o)
+
+-- the same from the answer of the tests before a page's own
+module _ (s p : List ℕ) (code : ℕ) {a : Answer} (h : a ≡ pageAsked s p code) (u : a ≡ Accepted) where
+  pub page-has : HasPage s p
+  page-has = asked-has s p code (sym h ∙ u)
+
+  pub page-front : HasFront s
+  page-front = front-there s p page-has

@@ -1,20 +1,14 @@
--- What a slot is for: its type, and its place among the slots of that type. Assumes nothing.
+-- A slot stands among the slots of its type. Assumes nothing.
 use mathlib.Core.Path.{_≡_, refl}
-use mathlib.Core.Bool.{true, false}
 use mathlib.Core.List.{List}
-use Prim.Native.Nat.{ℕ, zero, suc, _+_, _-_, _<_, _≤_}
+use Prim.Native.Nat.{ℕ, zero, suc, _+_, _<_, _≤_}
 use native.Mathlib.Numerals.{add-one}
 use native.Mathlib.Omega.{arith}
-use lib.Dec.{eqb}
-use borrow.Author.Tests.{ltb-true, ltb-false, eq-eqb, ne-eqb}
+use borrow.Author.Tests.{ltb-true, ltb-false}
 use Rattle.bits.specs.Choice.{firstBelow}
 use Rattle.bits.proofs.Logic.{first-passes, first-fails}
-use Rattle.kinds.specs.declared.types.Kind.{Kind}
-use Rattle.kinds.specs.Types.{kindOf}
 use Rattle.shelf.specs.Limits.{mostTypes}
-use Rattle.shelf.specs.Types.{typeCode, typeCount}
-use Rattle.pages.specs.declared.slots.Found.{Found}
-use Rattle.pages.specs.Slots.{startOf, inType, slotType, foundAt, isOverall, slotAt}
+use Rattle.pages.specs.Slots.{startOf, inType, slotType}
 use Rattle.pages.proofs.Counted.{start-none}
 
 -- a slot does not stand before its type
@@ -35,25 +29,3 @@ type-ends c i l = ltb-true i (startOf c (firstBelow (inType c i) mostTypes + 1))
 pub types-below : (c : List ℕ) (t : ℕ) → t ≤ startOf c t
 unfolding startOf
 types-below c t = omega arith
-
-module _ (c : List ℕ) (i : ℕ) {f : Found} (e : f ≡ foundAt c i) where
-  pub type-fits : f .t ≤ i
-  type-fits = rw e (omega (arith, start-below c i, types-below c (slotType c i)))
-
-  pub element-fits : (i ≡ f .start → ⊥) → 1 ≤ i - f .t
-  element-fits n =
-      let l : i ≡ startOf c (slotType c i) → ⊥ = rw e at n in
-      rw e (omega (arith, start-below c i, types-below c (slotType c i), l))
-
-  module _ {k : Kind} {x : ℕ} (q : x ≡ typeCode c (f .t)) (h : k ≡ kindOf x) where
-    pub overall-slot : {m : ℕ} → m ≡ typeCount c (f .t) → i ≡ f .start → record { kind = k; overall = true; first = i - f .t; end = i - f .t + m } ≡ slotAt c i
-    unfolding slotAt isOverall
-    overall-slot r s =
-        let b : eqb i (startOf c (slotType c i)) ≡ true = eq-eqb i _ (rw e at s) in
-        rw (b, h, q, r, e)
-
-    pub element-slot : (i ≡ f .start → ⊥) → record { kind = k; overall = false; first = i - f .t - 1; end = i - f .t } ≡ slotAt c i
-    unfolding slotAt isOverall
-    element-slot s =
-        let b : eqb i (startOf c (slotType c i)) ≡ false = ne-eqb i _ (rw e at s) in
-        rw (b, h, q, e)

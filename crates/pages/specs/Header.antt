@@ -1,7 +1,8 @@
 -- The first tests of a call, and the header of the pages 02h and 05h. Assumes nothing.
-use mathlib.Core.Bool.{Bool}
+use mathlib.Core.Path.{_≡_}
+use mathlib.Core.Bool.{Bool, true}
 use mathlib.Core.List.{List, _∷_, _++_}
-use Prim.Native.Nat.{ℕ, _+_, _-_}
+use Prim.Native.Nat.{ℕ, _+_, _-_, _≤_}
 use lib.Dec.{eqb, leb}
 use lib.ListN.{length, getD}
 use Rattle.bits.specs.Numbers.{big, bytes}
@@ -44,6 +45,10 @@ headed c p code n =
 -- 1 to 5: the shelf, and the header of a page for it
 unfoldable pub pageAsked : List ℕ → List ℕ → ℕ → Answer
 pageAsked s p code = next (shelfAsked s) (headed s p code (slotsOf s))
+
+-- the shelf is well formed, and the page has the bytes of all its slots
+abbrev pub HasPage : List ℕ → List ℕ → Type 0
+HasPage s p = (wellFormed s ≡ true) × (slotPlace (slotsOf s) ≤ length p)
 
 -- byte 0 the code, byte 1 the page's own, bytes 2 and 3 length minus 4, bytes 4 to 7 the generation code
 unfoldable pub header : List ℕ → ℕ → ℕ → ℕ → List ℕ

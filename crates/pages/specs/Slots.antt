@@ -1,15 +1,18 @@
 -- The slots of a page, four bytes each: for each type in order its overall element, then its individual elements. Assumes nothing.
-use mathlib.Core.Bool.{Bool}
+use mathlib.Core.Path.{_≡_}
+use mathlib.Core.Bool.{Bool, false}
 use mathlib.Core.List.{List}
-use Prim.Native.Nat.{ℕ, _+_, _*_, _-_}
+use Prim.Native.Nat.{ℕ, zero, suc, _+_, _*_, _-_, _<_, _≤_}
 use lib.Dec.{eqb, ltb}
+use lib.ListN.{length}
 use Rattle.bits.specs.Choice.{pick, firstBelow}
 use Rattle.bits.specs.Places.{foursPut}
+use Rattle.kinds.specs.declared.types.Kind.the-variants.{Current}
 use Rattle.kinds.specs.Types.{kindOf}
-use Rattle.shelf.specs.Limits.{mostTypes}
+use Rattle.shelf.specs.Limits.{mostTypes, elementPlace}
 use Rattle.shelf.specs.Types.{typesOf, typeCode, typeCount, before, elementsOf}
 use Rattle.pages.specs.declared.slots.Slot.{Slot}
-use Rattle.pages.specs.declared.slots.Found.{Found}
+use Rattle.pages.specs.declared.slots.SlotRun.{SlotRun}
 
 -- how many slots a page has
 unfoldable pub slotsOf : List ℕ → ℕ
@@ -27,9 +30,6 @@ inType c i t = ltb i (startOf c (t + 1))
 unfoldable pub slotType : List ℕ → ℕ → ℕ
 slotType c i = firstBelow (inType c i) mostTypes
 
-abbrev pub foundAt : List ℕ → ℕ → Found
-foundAt c i = record { t = slotType c i; start = startOf c (slotType c i) }
-
 -- a type's first slot is its overall element
 unfoldable pub isOverall : List ℕ → ℕ → Bool
 isOverall c i = eqb i (startOf c (slotType c i))
@@ -43,6 +43,36 @@ slotAt c i =
       overall = isOverall c i;
       first = pick (isOverall c i) (i - t) (i - t - 1);
       end = pick (isOverall c i) (i - t + typeCount c t) (i - t);
+    }
+
+-- the block s has the elements that a slot is for
+abbrev pub HasElements : List ℕ → Slot → Type 0
+HasElements s at = (elementPlace (at .end) ≤ length s) × (at .overall ≡ false → at .first < at .end)
+
+-- type t as a walk over the slots has it: how many types there are up to it, and where its slots end
+abbrev pub slotRunOf : List ℕ → ℕ → Bool → SlotRun
+slotRunOf c t overall = record { kind = kindOf (typeCode c t); overall = overall; types = t + 1; end = startOf c (t + 1) }
+
+abbrev pub slotRun : List ℕ → ℕ → SlotRun
+slotRun c i = slotRunOf c (slotType c i) (isOverall c i)
+
+-- what a walk has before slot i: no type yet, or that of the slot before it
+abbrev pub unstarted : SlotRun
+unstarted = record { kind = Current; overall = false; types = 0; end = 0 }
+
+abbrev pub slotCarried : List ℕ → ℕ → SlotRun
+slotCarried c zero = unstarted
+slotCarried c (suc i) = slotRun c i
+
+-- what slot i is for, from its type
+unfoldable pub slotIn : SlotRun → ℕ → Slot
+slotIn r i =
+    let after : ℕ = i + 1 - r .types in
+    record {
+      kind = r .kind;
+      overall = r .overall;
+      first = pick (r .overall) after (after - 1);
+      end = pick (r .overall) (r .end - r .types) after;
     }
 
 abbrev pub slotPlace : ℕ → ℕ

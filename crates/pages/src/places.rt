@@ -1,9 +1,8 @@
 // What a page has for element j: a slot of its own, and the overall slot of its type.
-use crate::slots;
 use kinds::types::Kind;
-use shelf::types;
+use shelf::types::Run;
 ghost use mathlib.Core.Path.{_≡_};
-ghost use Rattle.pages.specs.Places.{placesOf};
+ghost use Rattle.pages.specs.Places.{placesIn};
 
 // The type of the element, and where on the page the two slots stand.
 pub struct Places {
@@ -12,14 +11,13 @@ pub struct Places {
     pub own: u32,
 }
 
-pub fn places_of(configuration: &[u8], j: u16) -> Places
-    ensures { λ r. ⌜ r ≡ placesOf (now (configuration .entry)) j ⌝ }
+pub fn places_in(run: Run, j: u16) -> Places
+    ensures { λ r. ⌜ r ≡ placesIn run j ⌝ }
 {
-    let at = types::type_of(configuration, j);
-    let kind = Kind::of(types::code_of(configuration, at.number));
+    let kind = run.kind;
     Places {
         kind,
-        overall: slots::slot_place(at.before + at.number),
-        own: slots::slot_place(j) + 4 * (at.number as u32 + 1),
+        overall: 8 + 4 * (run.before as u32 + run.number as u32),
+        own: 8 + 4 * (j as u32 + run.number as u32 + 1),
     }
 }

@@ -1,11 +1,12 @@
 // The slots of a page, in page order: for each type its overall element, then its individual elements.
 use kinds::types::Kind;
-use shelf::limits;
 use shelf::types;
 ghost use mathlib.Core.Path.{_≡_};
-ghost use Prim.Native.Nat.{_*_, _≤_};
-ghost use Rattle.shelf.specs.Limits.{mostTypes};
-ghost use Rattle.pages.specs.Slots.{slotsOf, foundAt, slotAt, slotPlace};
+ghost use Prim.Native.Nat.{_+_, _<_, _≤_};
+ghost use Rattle.bits.specs.Bits.{num};
+ghost use Rattle.shelf.specs.Limits.{HasTypes};
+ghost use Rattle.opening.specs.Formed.{HasFront};
+ghost use Rattle.pages.specs.Slots.{slotsOf, slotPlace, unstarted, slotRun, slotCarried, slotIn};
 
 // What a slot is for: the elements from `first` up to `end`, for an individual element that one alone.
 pub struct Slot {
@@ -15,55 +16,82 @@ pub struct Slot {
     pub end: u16,
 }
 
-// A type, and the slot that it starts with.
-struct Found {
-    t: u16,
-    start: u16,
-}
-
-fn find(configuration: &[u8], i: u16) -> Found
-    ensures { λ r. ⌜ r ≡ foundAt (now (configuration .entry)) i ⌝ }
-    ensures { λ r. ⌜ r .start ≤ 256 * mostTypes ⌝ }
-{
-    let mut start: u16 = 0;
-    let mut t: u16 = 0;
-    while t < limits::MOST_TYPES {
-        let end = start + types::elements_of(configuration, t) as u16 + 1;
-        if i < end {
-            return Found { t, start };
-        }
-        start = end;
-        t += 1;
-    }
-    Found { t, start }
+// A type with its slots, as a walk has it at one of them: whether that is the overall one, how many types there are up to
+// this one, and where its slots end.
+pub struct SlotRun {
+    pub kind: Kind,
+    pub overall: bool,
+    pub types: u16,
+    pub end: u16,
 }
 
 // How many slots a page has.
 pub fn count(configuration: &[u8]) -> u16
+    requires { ⌜ HasTypes (now configuration) ⌝ }
     ensures { λ r. ⌜ r ≡ slotsOf (now (configuration .entry)) ⌝ }
 {
     types::count(configuration) + types::all_elements(configuration)
 }
 
-pub fn slot_at(configuration: &[u8], i: u16) -> Slot
-    ensures { λ r. ⌜ r ≡ slotAt (now (configuration .entry)) i ⌝ }
+// From which a walk starts: no type yet.
+pub fn first_run() -> SlotRun
+    ensures { λ r. ⌜ r ≡ unstarted ⌝ }
 {
-    let at = find(configuration, i);
-    let kind = Kind::of(types::code_of(configuration, at.t));
-    let behind = i - at.t;
-    if i == at.start {
+    SlotRun {
+        kind: Kind::Current,
+        overall: false,
+        types: 0,
+        end: 0,
+    }
+}
+
+// The type of slot i, from that of the slot before it: each type has a slot, so it is the same or the next.
+pub fn run_to(configuration: &[u8], run: SlotRun, i: u16) -> SlotRun
+    requires { ⌜ HasFront (now configuration) ⌝ }
+    requires { ⌜ i < slotsOf (now configuration) ⌝ }
+    requires { ⌜ run ≡ slotCarried (now configuration) i ⌝ }
+    ensures { λ r. ⌜ r ≡ slotRun (now (configuration .entry)) i ⌝ }
+{
+    if i < run.end {
+        let kind = run.kind;
+        return SlotRun {
+            kind,
+            overall: false,
+            types: run.types,
+            end: run.end,
+        };
+    }
+    let t = run.types;
+    let kind = Kind::of(types::code_of(configuration, t));
+    SlotRun {
+        kind,
+        overall: true,
+        types: t + 1,
+        end: i + types::elements_of(configuration, t) as u16 + 1,
+    }
+}
+
+// What slot i is for, of this type.
+pub fn slot_in(run: SlotRun, i: u16) -> Slot
+    requires { ⌜ i < run .end ⌝ }
+    requires { ⌜ run .types ≤ i + num (run .overall) ⌝ }
+    ensures { λ r. ⌜ r ≡ slotIn run i ⌝ }
+{
+    let kind = run.kind;
+    let after = i + 1 - run.types;
+    if run.overall {
         Slot {
             kind,
             overall: true,
-            first: behind,
-            end: behind + types::elements_of(configuration, at.t) as u16,
+            first: after,
+            end: run.end - run.types,
         }
     } else {
         Slot {
             kind,
             overall: false,
-            first: behind - 1,
-            end: behind,
+            first: after - 1,
+            end: after,
         }
     }
 }

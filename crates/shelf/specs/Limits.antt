@@ -1,6 +1,8 @@
 -- The limits of a shelf record: types, elements in all, elements of one type, bytes of a text; and the places that follow from them.
 -- They stand here and, for the code, in src/limits.rt. Assumes nothing.
-use Prim.Native.Nat.{ℕ, _+_, _*_}
+use mathlib.Core.List.{List}
+use Prim.Native.Nat.{ℕ, _+_, _*_, _≤_}
+use lib.ListN.{length}
 
 abbrev pub mostTypes : ℕ
 mostTypes = 8
@@ -30,3 +32,16 @@ elementPlace j = typePlace mostTypes + 16 * j
 
 abbrev pub thresholdsPlace : ℕ → ℕ
 thresholdsPlace j = elementPlace j + 4
+
+-- so many bytes has the block s: those of all types, of type t its first four, the room for its text, and those of element j
+abbrev pub HasTypes : List ℕ → Type 0
+HasTypes s = typePlace mostTypes ≤ length s
+
+abbrev pub HasType : List ℕ → ℕ → Type 0
+HasType s t = typePlace t + 4 ≤ length s
+
+abbrev pub HasText : List ℕ → ℕ → Type 0
+HasText s t = textPlace t + mostText ≤ length s
+
+abbrev pub HasElement : List ℕ → ℕ → Type 0
+HasElement s j = elementPlace j + 16 ≤ length s

@@ -1,13 +1,13 @@
 -- The types of a shelf s, and the type of each element. Assumes nothing.
-use mathlib.Core.Bool.{Bool}
+use mathlib.Core.Bool.{Bool, not}
 use mathlib.Core.List.{List}
-use Prim.Native.Nat.{ℕ, _+_}
+use Prim.Native.Nat.{ℕ, zero, suc, _+_}
 use lib.Dec.{ltb}
 use lib.ListN.{getD}
 use Rattle.bits.specs.Choice.{firstBelow, sumBelow}
 use Rattle.kinds.specs.declared.types.Kind.{Kind}
 use Rattle.kinds.specs.Types.{kindOf}
-use Rattle.shelf.specs.declared.types.Typed.{Typed}
+use Rattle.shelf.specs.declared.types.Run.{Run}
 use Rattle.shelf.specs.Limits.{mostTypes, typePlace}
 
 abbrev pub typesOf : List ℕ → ℕ
@@ -38,9 +38,24 @@ within s j t = ltb j (before s (t + 1))
 unfoldable pub typeOf : List ℕ → ℕ → ℕ
 typeOf s j = firstBelow (within s j) mostTypes
 
--- with the elements before it
-abbrev pub typedAt : List ℕ → ℕ → Typed
-typedAt s j = record { number = typeOf s j; before = before s (typeOf s j) }
-
 unfoldable pub kindAt : List ℕ → ℕ → Kind
 kindAt s j = kindOf (typeCode s (typeOf s j))
+
+-- element j stands behind the end of type t
+abbrev pub endedBy : List ℕ → ℕ → ℕ → Bool
+endedBy s j t = not (within s j t)
+
+-- type t with its elements, and the type of element j so
+abbrev pub runWith : List ℕ → ℕ → ℕ → ℕ → Run
+runWith s t a e = record { kind = kindOf (typeCode s t); number = t; before = a; end = e }
+
+abbrev pub runOf : List ℕ → ℕ → Run
+runOf s t = runWith s t (before s t) (before s (t + 1))
+
+abbrev pub runAt : List ℕ → ℕ → Run
+runAt s j = runOf s (typeOf s j)
+
+-- what a walk over the elements has before element j: the first type, or that of the element before it
+abbrev pub carried : List ℕ → ℕ → Run
+carried s zero = runOf s 0
+carried s (suc j) = runAt s j

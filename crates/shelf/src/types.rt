@@ -1,19 +1,23 @@
-// The types of a shelf: type t by its number, and which type element j has.
+// The types of a shelf: type t by its number, and the type of one element after the other.
 use crate::limits;
 use kinds::types::Kind;
 ghost use mathlib.Core.Path.{_≡_};
-ghost use Prim.Native.Nat.{_*_, _≤_};
-ghost use Rattle.shelf.specs.Limits.{mostTypes};
-ghost use Rattle.shelf.specs.Types.{typeCode, typeCount, textLength, typesOf, elementsOf, typedAt, kindAt};
+ghost use mathlib.Core.Bool.{true};
+ghost use Prim.Native.Nat.{_≤_};
+ghost use Rattle.bits.specs.Choice.{allBelow};
+ghost use Rattle.shelf.specs.Limits.{mostTypes, HasTypes, HasType, HasElement};
+ghost use Rattle.shelf.specs.Types.{typeCode, typeCount, textLength, typesOf, elementsOf, before, endedBy, runWith, runAt, carried};
 
 // How many types the block says it has.
 pub fn count(shelf: &[u8]) -> u16
+    requires { ⌜ HasTypes (now shelf) ⌝ }
     ensures { λ r. ⌜ r ≡ typesOf (now (shelf .entry)) ⌝ }
 {
     bits::byte_at(shelf, limits::TYPES) as u16
 }
 
 pub fn code_of(shelf: &[u8], t: u16) -> u8
+    requires { ⌜ HasType (now shelf) t ⌝ }
     ensures { λ r. ⌜ r ≡ typeCode (now (shelf .entry)) t ⌝ }
 {
     bits::byte_at(shelf, limits::type_place(t))
@@ -21,12 +25,14 @@ pub fn code_of(shelf: &[u8], t: u16) -> u8
 
 // How many elements type t has.
 pub fn elements_of(shelf: &[u8], t: u16) -> u8
+    requires { ⌜ HasType (now shelf) t ⌝ }
     ensures { λ r. ⌜ r ≡ typeCount (now (shelf .entry)) t ⌝ }
 {
     bits::byte_at(shelf, limits::type_place(t) + 1)
 }
 
 pub fn text_length(shelf: &[u8], t: u16) -> u8
+    requires { ⌜ HasType (now shelf) t ⌝ }
     ensures { λ r. ⌜ r ≡ textLength (now (shelf .entry)) t ⌝ }
 {
     bits::byte_at(shelf, limits::type_place(t) + 2)
@@ -34,6 +40,7 @@ pub fn text_length(shelf: &[u8], t: u16) -> u8
 
 // How many elements all types have.
 pub fn all_elements(shelf: &[u8]) -> u16
+    requires { ⌜ HasTypes (now shelf) ⌝ }
     ensures { λ r. ⌜ r ≡ elementsOf (now (shelf .entry)) ⌝ }
 {
     let mut sum: u16 = 0;
@@ -45,34 +52,67 @@ pub fn all_elements(shelf: &[u8]) -> u16
     sum
 }
 
-// A type, and how many elements stand before it.
-pub struct Typed {
+// A type with its elements: those from `before` up to `end`.
+pub struct Run {
+    pub kind: Kind,
     pub number: u16,
     pub before: u16,
+    pub end: u16,
 }
 
-// The type that element j is of; past the last element, that of no type.
-pub fn type_of(shelf: &[u8], j: u16) -> Typed
-    ensures { λ r. ⌜ r ≡ typedAt (now (shelf .entry)) j ⌝ }
-    ensures { λ r. ⌜ r .number ≤ mostTypes ⌝ }
-    ensures { λ r. ⌜ r .before ≤ 255 * mostTypes ⌝ }
+// Type t with its elements, as told.
+fn run_with(shelf: &[u8], number: u16, before: u16, end: u16) -> Run
+    requires { ⌜ HasType (now shelf) number ⌝ }
+    ensures { λ r. ⌜ r ≡ runWith (now (shelf .entry)) number before end ⌝ }
 {
-    let mut before: u16 = 0;
-    let mut t: u16 = 0;
-    while t < limits::MOST_TYPES {
-        let end = before + elements_of(shelf, t) as u16;
+    let kind = Kind::of(code_of(shelf, number));
+    Run {
+        kind,
+        number,
+        before,
+        end,
+    }
+}
+
+// The run of element j, from type t on, all types before which end before it.
+fn run_from(shelf: &[u8], t: u16, start: u16, j: u16) -> Run
+    requires { ⌜ HasElement (now shelf) j ⌝ }
+    requires { ⌜ t ≤ mostTypes ⌝ }
+    requires { ⌜ start ≡ before (now shelf) t ⌝ }
+    requires { ⌜ allBelow (endedBy (now shelf) j) t ≡ true ⌝ }
+    ensures { λ r. ⌜ r ≡ runAt (now (shelf .entry)) j ⌝ }
+{
+    let mut number = t;
+    let mut before = start;
+    while number < limits::MOST_TYPES {
+        let end = before + elements_of(shelf, number) as u16;
         if j < end {
-            return Typed { number: t, before };
+            return run_with(shelf, number, before, end);
         }
         before = end;
-        t += 1;
+        number += 1;
     }
-    Typed { number: t, before }
+    let end = before + elements_of(shelf, number) as u16;
+    run_with(shelf, number, before, end)
 }
 
-pub fn kind_at(shelf: &[u8], j: u16) -> Kind
-    ensures { λ r. ⌜ r ≡ kindAt (now (shelf .entry)) j ⌝ }
+// The first type, from which a walk starts.
+pub fn first_run(shelf: &[u8]) -> Run
+    requires { ⌜ HasTypes (now shelf) ⌝ }
+    ensures { λ r. ⌜ r ≡ carried (now (shelf .entry)) 0 ⌝ }
 {
-    let at = type_of(shelf, j);
-    Kind::of(code_of(shelf, at.number))
+    let end = elements_of(shelf, 0) as u16;
+    run_with(shelf, 0, 0, end)
+}
+
+// The run of element j, from that of the element before it, or from the first type.
+pub fn run_to(shelf: &[u8], run: Run, j: u16) -> Run
+    requires { ⌜ HasElement (now shelf) j ⌝ }
+    requires { ⌜ run ≡ carried (now shelf) j ⌝ }
+    ensures { λ r. ⌜ r ≡ runAt (now (shelf .entry)) j ⌝ }
+{
+    if j < run.end {
+        return run;
+    }
+    run_from(shelf, run.number, run.before, j)
 }

@@ -5,8 +5,10 @@
 ghost use Prim.Native.Nat.{_+_, _≤_};
 ghost use lib.ListN.{length};
 
-// 332 bytes, and 16 for each of ten elements.
-const LENGTH: usize = 492;
+pub const ELEMENTS: u16 = 10;
+
+// 332 bytes, and 16 for each element.
+pub const LENGTH: usize = 492;
 
 // Its wanted list: 4 bytes for each of ten elements.
 pub const WANTED_LENGTH: usize = 40;

@@ -1,39 +1,48 @@
-// What changed in a shelf block since a copy of it was taken.
+// What changed in the built-in shelf since a copy of it was taken.
 //
 // The places are written out as docs/LAYOUT.md has them, as in `builtin`.
-use shelf::types;
+use crate::builtin;
+ghost use Prim.Native.Nat.{_<_, _≤_};
 
-const FIRST_ELEMENT: u32 = 332;
+const FIRST_ELEMENT: usize = 332;
 
-const ELEMENT_SIZE: u32 = 16;
+const ELEMENT_SIZE: usize = 16;
 
-pub fn tell(before: &[u8], after: &[u8]) {
+pub fn tell(before: &[u8; builtin::LENGTH], after: &[u8; builtin::LENGTH]) {
     tell_elements(before, after);
     say::text(b"all else");
     say_changed(changed(before, after, 0, FIRST_ELEMENT));
 }
 
-fn tell_elements(before: &[u8], after: &[u8]) {
-    let n = types::all_elements(before);
+fn tell_elements(before: &[u8; builtin::LENGTH], after: &[u8; builtin::LENGTH]) {
     let mut j: u16 = 0;
-    while j < n {
+    while j < builtin::ELEMENTS {
         tell_element(before, after, j);
         j += 1;
     }
 }
 
-fn tell_element(before: &[u8], after: &[u8], j: u16) {
-    let at = FIRST_ELEMENT + ELEMENT_SIZE * j as u32;
+fn tell_element(before: &[u8; builtin::LENGTH], after: &[u8; builtin::LENGTH], j: u16)
+    requires { ⌜ j < 10 ⌝ }
+{
+    let at = FIRST_ELEMENT + ELEMENT_SIZE * j as usize;
     say::labelled(b"element ", j as u64);
     say_changed(changed(before, after, at, at + ELEMENT_SIZE));
 }
 
 // How many bytes differ, from a place up to an end.
-fn changed(before: &[u8], after: &[u8], at: u32, end: u32) -> u32 {
+fn changed(
+    before: &[u8; builtin::LENGTH],
+    after: &[u8; builtin::LENGTH],
+    at: usize,
+    end: usize,
+) -> u32
+    requires { ⌜ end ≤ 492 ⌝ }
+{
     let mut n: u32 = 0;
     let mut i = at;
     while i < end {
-        if bits::byte_at(before, i) != bits::byte_at(after, i) {
+        if before[i] != after[i] {
             n += 1;
         }
         i += 1;

@@ -16,7 +16,7 @@ pub fn show() {
     page::tell_headed(b"status page before", Page::Status, &shelf);
     bring(&mut shelf);
     page::tell_headed(b"status page after", Page::Status, &shelf);
-    showing::show_type(&shelf, 0);
+    showing::first_type(&shelf);
     changes::tell(&before, &shelf);
 }
 

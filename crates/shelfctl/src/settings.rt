@@ -1,8 +1,11 @@
 // The settings that a shelf stores, in the form of a wanted list: four bytes for each element.
 use crate::answer;
+use opening::Opened;
 use shelf::elements;
 use shelf::limits;
-use shelf::types;
+ghost use Prim.Native.Nat.{_*_, _≤_};
+ghost use lib.ListN.{length};
+ghost use Rattle.shelf.specs.Limits.{elementPlace};
 
 const MOST_BYTES: usize = 4 * limits::MOST_ELEMENTS as usize;
 
@@ -16,12 +19,29 @@ pub fn tell(shelf: &[u8]) {
 
 fn show(shelf: &[u8]) {
     let mut list = [0u8; MOST_BYTES];
-    put(shelf, &mut list);
-    say::hex_lines(&list, 4 * types::all_elements(shelf) as u32);
+    let n = put(shelf, &mut list);
+    say::hex_lines(&list, 4 * n as u32);
 }
 
-pub fn put(shelf: &[u8], list: &mut [u8]) {
-    let n = types::all_elements(shelf);
+// Puts the records of a well-formed shelf, where there is room for all, and tells how many.
+pub fn put(shelf: &[u8], list: &mut [u8]) -> u16 {
+    let opened = opening::open_shelf(shelf);
+    let Opened::Shelf(sizes) = opened else {
+        return 0;
+    };
+    let n = sizes.elements;
+    if 4 * n as usize <= list.len() {
+        put_records(shelf, list, n);
+        n
+    } else {
+        0
+    }
+}
+
+fn put_records(shelf: &[u8], list: &mut [u8], n: u16)
+    requires { ⌜ elementPlace n ≤ length (now shelf) ⌝ }
+    requires { ⌜ 4 * n ≤ length (now list) ⌝ }
+{
     let mut j: u16 = 0;
     while j < n {
         bits::put_four(list, 4 * j as u32, elements::settings_at(shelf, j));

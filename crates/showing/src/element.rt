@@ -2,12 +2,13 @@
 use kinds::settings::Settings;
 use kinds::types::Kind;
 use shelf::elements;
-use shelf::types;
 use shown::Shown;
 use verdicts::verdict::Verdict;
+ghost use Rattle.shelf.specs.Limits.{HasElement};
 
-pub fn show(shelf: &[u8], j: u16) {
-    let kind = types::kind_at(shelf, j);
+pub fn show(shelf: &[u8], kind: Kind, j: u16)
+    requires { ⌜ HasElement (now shelf) j ⌝ }
+{
     let set = Settings::of(kind, elements::settings_at(shelf, j));
     let reading = elements::reading_at(shelf, j);
     let nominal = elements::nominal_at(shelf, j);

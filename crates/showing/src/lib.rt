@@ -1,23 +1,42 @@
-// What a well-formed shelf holds, in words: its head, its types, and the elements of each.
+// What a well-formed shelf holds, in words: its head, its types, and the elements of each. Of any other block nothing is said.
 mod element;
 
 use kinds::types::Kind;
+use opening::Opened;
 use shelf::limits;
 use shelf::types;
+ghost use Prim.Native.Nat.{_<_, _≤_};
+ghost use lib.ListN.{length};
+ghost use Rattle.shelf.specs.Limits.{mostTypes, elementPlace, HasTypes};
 
 pub fn contents(shelf: &[u8]) {
-    show_sizes(shelf);
+    let opened = opening::open_shelf(shelf);
+    let Opened::Shelf(sizes) = opened else {
+        return;
+    };
+    show_sizes(shelf, sizes.types, sizes.elements);
     show_identification(shelf);
-    show_types(shelf);
+    show_types(shelf, sizes.types, sizes.elements);
 }
 
-fn show_sizes(shelf: &[u8]) {
+// The first type alone.
+pub fn first_type(shelf: &[u8]) {
+    let opened = opening::open_shelf(shelf);
+    let Opened::Shelf(sizes) = opened else {
+        return;
+    };
+    show_type(shelf, 0, sizes.elements);
+}
+
+fn show_sizes(shelf: &[u8], types: u16, elements: u16)
+    requires { ⌜ HasTypes (now shelf) ⌝ }
+{
     say::labelled(
         b"generation ",
         bits::big32_at(shelf, limits::GENERATION) as u64,
     );
-    say::count(types::count(shelf) as u64, b" type");
-    say::count(types::all_elements(shelf) as u64, b" element");
+    say::count(types as u64, b" type");
+    say::count(elements as u64, b" element");
     say::text(b"\n");
 }
 
@@ -30,16 +49,21 @@ fn show_identification(shelf: &[u8]) {
     say::text(b"\n");
 }
 
-fn show_types(shelf: &[u8]) {
-    let n = types::count(shelf);
+fn show_types(shelf: &[u8], types: u16, elements: u16)
+    requires { ⌜ types ≤ mostTypes ⌝ }
+    requires { ⌜ elementPlace elements ≤ length (now shelf) ⌝ }
+{
     let mut t: u16 = 0;
-    while t < n {
-        show_type(shelf, t);
+    while t < types {
+        show_type(shelf, t, elements);
         t += 1;
     }
 }
 
-pub fn show_type(shelf: &[u8], t: u16) {
+fn show_type(shelf: &[u8], t: u16, elements: u16)
+    requires { ⌜ t < mostTypes ⌝ }
+    requires { ⌜ elementPlace elements ≤ length (now shelf) ⌝ }
+{
     let code = types::code_of(shelf, t);
     let length = types::text_length(shelf, t) as u16;
     say::labelled(b"type ", t as u64);
@@ -48,7 +72,7 @@ pub fn show_type(shelf: &[u8], t: u16) {
     say::quoted_at(b"h) \"", shelf, limits::text_place(t), length);
     say::count(types::elements_of(shelf, t) as u64, b" element");
     say::text(b"\n");
-    show_elements(shelf, t);
+    show_elements(shelf, t, elements);
 }
 
 fn say_kind(kind: Kind) {
@@ -60,12 +84,18 @@ fn say_kind(kind: Kind) {
     }
 }
 
-fn show_elements(shelf: &[u8], t: u16) {
-    let n = types::all_elements(shelf);
+// Those of n elements that are of type t.
+fn show_elements(shelf: &[u8], t: u16, n: u16)
+    requires { ⌜ elementPlace n ≤ length (now shelf) ⌝ }
+{
+    let mut run = types::first_run(shelf);
     let mut j: u16 = 0;
     while j < n {
-        if types::type_of(shelf, j).number == t {
-            element::show(shelf, j);
+        let here = types::run_to(shelf, run, j);
+        run = here;
+        let kind = here.kind;
+        if here.number == t {
+            element::show(shelf, kind, j);
         }
         j += 1;
     }

@@ -8,7 +8,6 @@ use native.Mathlib.Omega.{arith}
 use lib.Dec.{eqb}
 use Rattle.bits.specs.Choice.{pick}
 use Rattle.kinds.specs.declared.types.Kind.{Kind}
-use Rattle.bits.proofs.Logic.{pick-yes, pick-no}
 use Rattle.shown.specs.declared.Shown.{Shown}
 use Rattle.shown.specs.Status.{codeAlone}
 use Rattle.pages.specs.declared.slots.Slot.{Slot}
@@ -45,15 +44,13 @@ module _ (s : List ℕ) (k : Kind) (first : ℕ) where
   unfolding worst
   all-seen j end e p = p ∙ ap (λ n. worstOf (has s k first n)) e
 
+-- a code seen by one element more
 pub seen-next : (s : List ℕ) (code j : ℕ) {b : Bool} {k : Kind} {n : ℕ} → b ≡ anyBelow (isCode s code) j → k ≡ kindAt s j → n ≡ codeAt s k j
     → b || eqb n code ≡ anyBelow (isCode s code) (j + 1)
 seen-next s code j p q r = rw (add-one, p, r, q)
 
-module _ (s : List ℕ) (i : ℕ) {at : Slot} {x : Shown} (e : at ≡ slotAt s i) where
-  pub in-overall : {w : ℕ} → at .overall ≡ true → w ≡ worst s (at .kind) (at .first) (at .end) → x ≡ codeAlone w → x ≡ shownIn s i
-  unfolding shownIn
-  in-overall o p q = q ∙ ap codeAlone p ∙ rw e (sym (pick-yes _ _ _ (rw e at o)))
-
-  pub in-element : at .overall ≡ false → x ≡ shownAt s (at .kind) (at .first) → x ≡ shownIn s i
-  unfolding shownIn
-  in-element o p = p ∙ rw e (sym (pick-no _ _ _ (rw e at o)))
+-- what slot i shows, from what the slot is for
+pub shown-is : (s : List ℕ) (i : ℕ) {at : Slot} {x : Shown} → at ≡ slotAt s i
+    → x ≡ pick (at .overall) (codeAlone (worst s (at .kind) (at .first) (at .end))) (shownAt s (at .kind) (at .first)) → x ≡ shownIn s i
+unfolding shownIn
+shown-is s i e h = h ∙ rw e

@@ -1,12 +1,21 @@
 // What a shelf shows: each element by itself, each type by its worst element, and the page by all.
 use kinds::settings::Settings;
 use kinds::types::Kind;
-use pages::slots;
+use pages::slots::Slot;
 use shelf::elements;
 use shelf::types;
 use shown::Shown;
+use verdicts::verdict::Verdict;
 ghost use mathlib.Core.Path.{_≡_};
-ghost use Rattle.shows.specs.Shows.{shownAt, codeAt, worse, worst, shownIn, pageBits, bitsByte};
+ghost use mathlib.Core.Bool.{true};
+ghost use Prim.Native.Nat.{_≤_};
+ghost use lib.ListN.{length};
+ghost use Rattle.bits.specs.Choice.{pick};
+ghost use Rattle.shown.specs.Status.{codeAlone};
+ghost use Rattle.shelf.specs.Limits.{elementPlace, HasElement};
+ghost use Rattle.opening.specs.Formed.{wellFormed};
+ghost use Rattle.pages.specs.Slots.{HasElements};
+ghost use Rattle.shows.specs.Shows.{shownAt, codeAt, worse, worst, pageBits, bitsByte};
 
 // The two bits of a status page that tell of all its elements.
 pub struct PageBits {
@@ -16,14 +25,19 @@ pub struct PageBits {
 
 impl PageBits {
     pub fn of(shelf: &[u8]) -> PageBits
+        requires { ⌜ wellFormed (now shelf) ≡ true ⌝ }
         ensures { λ r. ⌜ r ≡ pageBits (now (shelf .entry)) ⌝ }
     {
         let n = types::all_elements(shelf);
         let mut noncritical = false;
         let mut critical = false;
+        let mut run = types::first_run(shelf);
         let mut j: u16 = 0;
         while j < n {
-            let code = code_at(shelf, types::kind_at(shelf, j), j);
+            let here = types::run_to(shelf, run, j);
+            run = here;
+            let kind = here.kind;
+            let code = code_at(shelf, kind, j);
             noncritical = noncritical | (code == 3);
             critical = critical | (code == 2);
             j += 1;
@@ -43,6 +57,7 @@ impl PageBits {
 }
 
 fn shown_at(shelf: &[u8], kind: Kind, j: u16) -> Shown
+    requires { ⌜ HasElement (now shelf) j ⌝ }
     ensures { λ r. ⌜ r ≡ shownAt (now (shelf .entry)) kind j ⌝ }
 {
     let set = Settings::of(kind, elements::settings_at(shelf, j));
@@ -57,11 +72,22 @@ fn shown_at(shelf: &[u8], kind: Kind, j: u16) -> Shown
     )
 }
 
+// Without what else the element shows.
 fn code_at(shelf: &[u8], kind: Kind, j: u16) -> u8
+    requires { ⌜ HasElement (now shelf) j ⌝ }
     ensures { λ r. ⌜ r ≡ codeAt (now (shelf .entry)) kind j ⌝ }
 {
-    let x = shown_at(shelf, kind, j);
-    x.verdict.code
+    let set = Settings::of(kind, elements::settings_at(shelf, j));
+    let reading = elements::reading_at(shelf, j);
+    let nominal = elements::nominal_at(shelf, j);
+    let verdict = Verdict::of(
+        kind,
+        set.on,
+        reading,
+        nominal,
+        elements::thresholds_at(shelf, j),
+    );
+    verdict.code
 }
 
 fn worse(a: u8, b: u8) -> u8
@@ -82,6 +108,7 @@ fn worse(a: u8, b: u8) -> u8
 
 // The worst code of the elements from `first` up to `end`.
 fn worst(shelf: &[u8], kind: Kind, first: u16, end: u16) -> u8
+    requires { ⌜ elementPlace end ≤ length (now shelf) ⌝ }
     ensures { λ r. ⌜ r ≡ worst (now (shelf .entry)) kind first end ⌝ }
 {
     let mut code: u8 = 0;
@@ -93,11 +120,11 @@ fn worst(shelf: &[u8], kind: Kind, first: u16, end: u16) -> u8
     code
 }
 
-// What slot i of the status page shows.
-pub fn shown_in(shelf: &[u8], i: u16) -> Shown
-    ensures { λ r. ⌜ r ≡ shownIn (now (shelf .entry)) i ⌝ }
+// What a slot of the status page shows.
+pub fn shown_in(shelf: &[u8], at: Slot) -> Shown
+    requires { ⌜ HasElements (now shelf) at ⌝ }
+    ensures { λ r. ⌜ r ≡ pick (at .overall) (codeAlone (worst (now (shelf .entry)) (at .kind) (at .first) (at .end))) (shownAt (now (shelf .entry)) (at .kind) (at .first)) ⌝ }
 {
-    let at = slots::slot_at(shelf, i);
     let kind = at.kind;
     if at.overall {
         Shown::code_alone(worst(shelf, kind, at.first, at.end))

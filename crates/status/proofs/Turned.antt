@@ -4,7 +4,7 @@ use mathlib.Core.Bool.{true, false}
 use mathlib.Core.List.{List, [], _∷_}
 use Prim.Native.Nat.{ℕ, _+_, _<_}
 use lib.ListN.{getD}
-use Rattle.bits.specs.Choice.{allBelow, refusedIn}
+use Rattle.bits.specs.Choice.{pick, allBelow, refusedIn}
 use Rattle.bits.specs.Bits.{only}
 use Rattle.bits.specs.Places.{fourAt}
 use Rattle.bits.proofs.Logic.{pick-yes, pick-no, fails}
@@ -20,25 +20,38 @@ use Rattle.status.specs.Read.{slotOffending, offence, slotShown}
 pub row-is : (c : List ℕ) (f : ℕ → Shown) (i : ℕ) {at : Slot} {x : Shown} {e : List ℕ} → at ≡ slotAt c i → x ≡ f i → e ≡ slotBytes at x → e ≡ slotRow c f i
 row-is c f i p q h = h ∙ rw (p, q)
 
-module _ (c p : List ℕ) (i : ℕ) {at : Slot} {k : ℕ} {e : List ℕ} (q : at ≡ slotAt c i) (u : k ≡ slotPlace i) (h : e ≡ fourAt p k) where
+-- what the four bytes of slot i say
+module _ (p : List ℕ) (i : ℕ) (at : Slot) {k : ℕ} {e : List ℕ} (u : k ≡ slotPlace i) (h : e ≡ fourAt p k) where
   four-is : e ≡ fourAt p (slotPlace i)
   four-is = h ∙ ap (fourAt p) u
 
-  pub offends-overall : {n : ℕ} → at .overall ≡ true → n ≡ overallOffending e → n ≡ slotOffending c p i
+  pub offends-overall : {n : ℕ} → at .overall ≡ true → n ≡ overallOffending e
+      → n ≡ pick (at .overall) (overallOffending (fourAt p (slotPlace i))) (offending (at .kind) (fourAt p (slotPlace i)))
+  offends-overall o r = r ∙ ap overallOffending four-is ∙ sym (pick-yes _ _ _ o)
+
+  pub offends-element : {n : ℕ} → at .overall ≡ false → n ≡ offending (at .kind) e
+      → n ≡ pick (at .overall) (overallOffending (fourAt p (slotPlace i))) (offending (at .kind) (fourAt p (slotPlace i)))
+  offends-element o r = r ∙ ap (offending (at .kind)) four-is ∙ sym (pick-no _ _ _ o)
+
+  pub shows-overall : {x : Shown} → at .overall ≡ true → x ≡ codeAlone (getD e 0 0)
+      → x ≡ pick (at .overall) (codeAlone (getD p (slotPlace i) 0)) (shownOf (at .kind) (fourAt p (slotPlace i)))
+  shows-overall o r = r ∙ ap (λ (l : List ℕ). codeAlone (getD l 0 0)) four-is ∙ sym (pick-yes _ _ _ o)
+
+  pub shows-element : {x : Shown} → at .overall ≡ false → x ≡ shownOf (at .kind) e
+      → x ≡ pick (at .overall) (codeAlone (getD p (slotPlace i) 0)) (shownOf (at .kind) (fourAt p (slotPlace i)))
+  shows-element o r = r ∙ ap (shownOf (at .kind)) four-is ∙ sym (pick-no _ _ _ o)
+
+-- and of the slot under a configuration
+module _ (c p : List ℕ) (i : ℕ) {at : Slot} (q : at ≡ slotAt c i) where
+  pub slot-offends : {n : ℕ} → n ≡ pick (at .overall) (overallOffending (fourAt p (slotPlace i))) (offending (at .kind) (fourAt p (slotPlace i)))
+      → n ≡ slotOffending c p i
   unfolding slotOffending
-  offends-overall o r = r ∙ ap overallOffending four-is ∙ sym (pick-yes _ _ _ (rw q at o))
+  slot-offends h = h ∙ rw q
 
-  pub offends-element : {n : ℕ} → at .overall ≡ false → n ≡ offending (at .kind) e → n ≡ slotOffending c p i
-  unfolding slotOffending
-  offends-element o r = r ∙ rw (q, four-is) (sym (pick-no _ _ _ (rw q at o)))
-
-  pub shows-overall : {x : Shown} → at .overall ≡ true → x ≡ codeAlone (getD e 0 0) → x ≡ slotShown c p i
+  pub slot-shows : {x : Shown} → x ≡ pick (at .overall) (codeAlone (getD p (slotPlace i) 0)) (shownOf (at .kind) (fourAt p (slotPlace i)))
+      → x ≡ slotShown c p i
   unfolding slotShown
-  shows-overall o r = r ∙ ap (λ (l : List ℕ). codeAlone (getD l 0 0)) four-is ∙ sym (pick-yes _ _ _ (rw q at o))
-
-  pub shows-element : {x : Shown} → at .overall ≡ false → x ≡ shownOf (at .kind) e → x ≡ slotShown c p i
-  unfolding slotShown
-  shows-element o r = r ∙ rw (q, four-is) (sym (pick-no _ _ _ (rw q at o)))
+  slot-shows h = h ∙ rw q
 
 module _ (c p : List ℕ) (n : ℕ) where
   pub first-byte-refused : only (2 ∷ 1 ∷ []) (getD p 1 0) ≡ false → 1 ≡ offence c p n

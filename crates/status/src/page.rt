@@ -10,8 +10,8 @@ use shows::PageBits;
 ghost use mathlib.Core.Path.{_≡_};
 ghost use Rattle.refusals.specs.Outcomes.{writes, outAfter};
 ghost use Rattle.shows.specs.Shows.{shownIn};
-ghost use Rattle.pages.specs.Slots.{slotsPut};
-ghost use Rattle.pages.specs.Header.{shelfAsked};
+ghost use Rattle.pages.specs.Slots.{slotsOf, slotsPut};
+ghost use Rattle.pages.specs.Header.{shelfAsked, HasPage};
 ghost use Rattle.status.specs.Page.{slotBytes, slotRow, statusPage};
 
 pub const CODE: u8 = 0x02;
@@ -28,11 +28,17 @@ pub fn slot_bytes(at: Slot, x: Shown) -> [u8; 4]
 }
 
 fn put_slots(shelf: &[u8], out: &mut [u8], n: u16)
+    requires { ⌜ HasPage (now shelf) (now out) ⌝ }
+    requires { ⌜ n ≡ slotsOf (now shelf) ⌝ }
     ensures { λ _. ⌜ now (out .exit) ≡ slotsPut (slotRow (now (shelf .entry)) (shownIn (now (shelf .entry)))) (now (out .entry)) n ⌝ }
 {
+    let mut run = slots::first_run();
     let mut i: u16 = 0;
     while i < n {
-        let e = slot_bytes(slots::slot_at(shelf, i), shows::shown_in(shelf, i));
+        let here = slots::run_to(shelf, run, i);
+        run = here;
+        let at = slots::slot_in(here, i);
+        let e = slot_bytes(at, shows::shown_in(shelf, at));
         bits::put_four(out, slots::slot_place(i), e);
         i += 1;
     }

@@ -3,20 +3,28 @@ use crate::page;
 use opening::Opened;
 use pages::header;
 use pages::slots;
+use pages::slots::Slot;
 use refusals::Answer;
 use refusals::Refusal;
 use shown::Shown;
 use shows::PageBits;
 ghost use mathlib.Core.Path.{_≡_};
+ghost use Prim.Native.Nat.{_+_, _≤_};
+ghost use lib.ListN.{length, getD};
+ghost use Rattle.bits.specs.Choice.{pick};
+ghost use Rattle.bits.specs.Places.{fourAt};
+ghost use Rattle.shown.specs.Status.{offending, overallOffending, codeAlone, shownOf};
 ghost use Rattle.refusals.specs.Outcomes.{recordAfter};
-ghost use Rattle.status_record.specs.Entries.{entriesPut};
-ghost use Rattle.status.specs.Read.{slotOffending, offence, slotShown, bitsOn, statusRead, statusRecord};
+ghost use Rattle.opening.specs.Formed.{HasFront};
+ghost use Rattle.pages.specs.Slots.{slotsOf, slotPlace};
+ghost use Rattle.status_record.specs.Entries.{entryPlace, entriesPut};
+ghost use Rattle.status.specs.Read.{offence, slotShown, bitsOn, statusRead, statusRecord};
 
 // The first byte of slot i that is refused; 4 if none is.
-fn slot_offending(configuration: &[u8], page: &[u8], i: u16) -> u8
-    ensures { λ r. ⌜ r ≡ slotOffending (now (configuration .entry)) (now (page .entry)) i ⌝ }
+fn slot_offending(page: &[u8], at: Slot, i: u16) -> u8
+    requires { ⌜ slotPlace i + 4 ≤ length (now page) ⌝ }
+    ensures { λ r. ⌜ r ≡ pick (at .overall) (overallOffending (fourAt (now (page .entry)) (slotPlace i))) (offending (at .kind) (fourAt (now (page .entry)) (slotPlace i))) ⌝ }
 {
-    let at = slots::slot_at(configuration, i);
     let kind = at.kind;
     let e = bits::four_at(page, slots::slot_place(i));
     if at.overall {
@@ -28,14 +36,21 @@ fn slot_offending(configuration: &[u8], page: &[u8], i: u16) -> u8
 
 // The first byte of the page, in page order, that is refused; the page's length if none is.
 fn first_offence(configuration: &[u8], page: &[u8], n: u16) -> u32
+    requires { ⌜ HasFront (now configuration) ⌝ }
+    requires { ⌜ n ≤ slotsOf (now configuration) ⌝ }
+    requires { ⌜ slotPlace n ≤ length (now page) ⌝ }
     ensures { λ r. ⌜ r ≡ offence (now (configuration .entry)) (now (page .entry)) n ⌝ }
 {
     if bits::byte_at(page, 1) & 0xf9 != 0 {
         return 1;
     }
+    let mut run = slots::first_run();
     let mut i: u16 = 0;
     while i < n {
-        let k = slot_offending(configuration, page, i);
+        let here = slots::run_to(configuration, run, i);
+        run = here;
+        let at = slots::slot_in(here, i);
+        let k = slot_offending(page, at, i);
         if k < 4 {
             return slots::slot_place(i) + k as u32;
         }
@@ -44,10 +59,10 @@ fn first_offence(configuration: &[u8], page: &[u8], n: u16) -> u32
     slots::slot_place(n)
 }
 
-fn slot_shown(configuration: &[u8], page: &[u8], i: u16) -> Shown
-    ensures { λ r. ⌜ r ≡ slotShown (now (configuration .entry)) (now (page .entry)) i ⌝ }
+fn slot_shown(page: &[u8], at: Slot, i: u16) -> Shown
+    requires { ⌜ slotPlace i + 4 ≤ length (now page) ⌝ }
+    ensures { λ r. ⌜ r ≡ pick (at .overall) (codeAlone (getD (now (page .entry)) (slotPlace i) 0)) (shownOf (at .kind) (fourAt (now (page .entry)) (slotPlace i))) ⌝ }
 {
-    let at = slots::slot_at(configuration, i);
     let kind = at.kind;
     let e = bits::four_at(page, slots::slot_place(i));
     if at.overall {
@@ -58,6 +73,7 @@ fn slot_shown(configuration: &[u8], page: &[u8], i: u16) -> Shown
 }
 
 fn bits_on(page: &[u8]) -> PageBits
+    requires { ⌜ 4 ≤ length (now page) ⌝ }
     ensures { λ r. ⌜ r ≡ bitsOn (now (page .entry)) ⌝ }
 {
     let b = bits::byte_at(page, 1);
@@ -68,11 +84,19 @@ fn bits_on(page: &[u8]) -> PageBits
 }
 
 fn put_entries(configuration: &[u8], page: &[u8], fields: &mut [u8], n: u16)
+    requires { ⌜ HasFront (now configuration) ⌝ }
+    requires { ⌜ n ≤ slotsOf (now configuration) ⌝ }
+    requires { ⌜ slotPlace n ≤ length (now page) ⌝ }
+    requires { ⌜ entryPlace n ≤ length (now fields) ⌝ }
     ensures { λ _. ⌜ now (fields .exit) ≡ entriesPut (slotShown (now (configuration .entry)) (now (page .entry))) (now (fields .entry)) n ⌝ }
 {
+    let mut run = slots::first_run();
     let mut i: u16 = 0;
     while i < n {
-        status_record::put_entry(fields, i, slot_shown(configuration, page, i));
+        let here = slots::run_to(configuration, run, i);
+        run = here;
+        let at = slots::slot_in(here, i);
+        status_record::put_entry(fields, i, slot_shown(page, at, i));
         i += 1;
     }
 }

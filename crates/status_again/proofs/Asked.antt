@@ -1,5 +1,5 @@
 -- The test of one entry, and the refusals of the writer one after the other. Assumes nothing.
-use mathlib.Core.Path.{_≡_, sym, ap}
+use mathlib.Core.Path.{_≡_, sym, ap, _∙_}
 use mathlib.Core.Bool.{Bool, true, false, _&&_}
 use mathlib.Core.List.{List}
 use Prim.Native.Nat.{ℕ}
@@ -10,7 +10,7 @@ use Rattle.shown.specs.Status.{showable, overallShowable}
 use Rattle.pages.specs.declared.slots.Slot.{Slot}
 use Rattle.pages.specs.Slots.{slotAt, slotsOf}
 use Rattle.status_record.specs.Entries.{entryAt, flagsFormed, entriesIn, bitsFormed}
-use Rattle.status_again.specs.Again.{entryFormed, entriesFormed, recordAsked, pageAgain}
+use Rattle.status_again.specs.Again.{slotShowable, entryFormed, entriesFormed, recordAsked, pageAgain}
 use lib.Dec.{eqb}
 use Rattle.refusals.specs.declared.Refusal.the-variants.{ShelfNotWellFormed, NotAllowed, WantedList}
 use Rattle.refusals.specs.declared.Written.{Written}
@@ -21,14 +21,16 @@ use Rattle.refusals.specs.declared.Written.the-variants as written
 use Rattle.pages.specs.Header as pages
 
 -- one entry's test
-module _ (c r : List ℕ) (i : ℕ) {at : Slot} {f t : Bool} {x : Shown} (q : at ≡ slotAt c i) (u : f ≡ flagsFormed r i) (h : x ≡ entryAt r i) where
-  pub formed-overall : at .overall ≡ true → t ≡ overallShowable x → f && t ≡ entryFormed c r i
-  unfolding entryFormed
-  formed-overall o e = rw (u, e, h) (ap (λ b. flagsFormed r i && b) (sym (pick-yes _ _ _ (rw q at o))))
+module _ (r : List ℕ) (i : ℕ) (at : Slot) {f t : Bool} {x : Shown} (u : f ≡ flagsFormed r i) (h : x ≡ entryAt r i) where
+  pub formed-overall : at .overall ≡ true → t ≡ overallShowable x → f && t ≡ flagsFormed r i && slotShowable at (entryAt r i)
+  formed-overall o e = rw (u, e, h) (ap (λ b. flagsFormed r i && b) (sym (pick-yes _ _ _ o)))
 
-  pub formed-element : at .overall ≡ false → t ≡ showable (at .kind) x → f && t ≡ entryFormed c r i
-  unfolding entryFormed
-  formed-element o e = rw (u, e, h, q) (ap (λ b. flagsFormed r i && b) (sym (pick-no _ _ _ (rw q at o))))
+  pub formed-element : at .overall ≡ false → t ≡ showable (at .kind) x → f && t ≡ flagsFormed r i && slotShowable at (entryAt r i)
+  formed-element o e = rw (u, e, h) (ap (λ b. flagsFormed r i && b) (sym (pick-no _ _ _ o)))
+
+pub entry-asked : (c r : List ℕ) (i : ℕ) {at : Slot} {t : Bool} → at ≡ slotAt c i → t ≡ flagsFormed r i && slotShowable at (entryAt r i) → t ≡ entryFormed c r i
+unfolding entryFormed
+entry-asked c r i q h = h ∙ rw q
 
 -- the writer from a record
 module _ (c r out : List ℕ) where

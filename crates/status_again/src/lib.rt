@@ -2,21 +2,26 @@
 use opening::Opened;
 use pages::header;
 use pages::slots;
+use pages::slots::Slot;
 use refusals::Refusal;
 use refusals::Written;
 use status::page;
 ghost use mathlib.Core.Path.{_≡_};
+ghost use mathlib.Core.Bool.{_&&_};
+ghost use Prim.Native.Nat.{_≤_};
+ghost use lib.ListN.{length};
 ghost use Rattle.refusals.specs.Outcomes.{writes, outAfter};
-ghost use Rattle.pages.specs.Slots.{slotsPut};
+ghost use Rattle.opening.specs.Formed.{HasFront};
+ghost use Rattle.pages.specs.Slots.{slotsOf, slotPlace, slotsPut};
 ghost use Rattle.status.specs.Page.{slotRow};
-ghost use Rattle.status_record.specs.Entries.{entryAt};
-ghost use Rattle.status_again.specs.Again.{entryFormed, entriesFormed, recordAsked, pageAgain};
+ghost use Rattle.status_record.specs.Entries.{entryPlace, HasEntry, entryAt, flagsFormed};
+ghost use Rattle.status_again.specs.Again.{slotShowable, entriesFormed, recordAsked, pageAgain};
 
 // No field of entry i is out of range, or set where its slot shows none.
-fn entry_formed(configuration: &[u8], fields: &[u8], i: u16) -> bool
-    ensures { λ r. ⌜ r ≡ entryFormed (now (configuration .entry)) (now (fields .entry)) i ⌝ }
+fn entry_formed(fields: &[u8], at: Slot, i: u16) -> bool
+    requires { ⌜ HasEntry (now fields) i ⌝ }
+    ensures { λ r. ⌜ r ≡ flagsFormed (now (fields .entry)) i && slotShowable at (entryAt (now (fields .entry)) i) ⌝ }
 {
-    let at = slots::slot_at(configuration, i);
     let kind = at.kind;
     let flags = status_record::flags_formed(fields, i);
     let x = status_record::entry_at(fields, i);
@@ -28,11 +33,18 @@ fn entry_formed(configuration: &[u8], fields: &[u8], i: u16) -> bool
 }
 
 fn entries_formed(configuration: &[u8], fields: &[u8], n: u16) -> bool
+    requires { ⌜ HasFront (now configuration) ⌝ }
+    requires { ⌜ n ≤ slotsOf (now configuration) ⌝ }
+    requires { ⌜ entryPlace n ≤ length (now fields) ⌝ }
     ensures { λ r. ⌜ r ≡ entriesFormed (now (configuration .entry)) (now (fields .entry)) n ⌝ }
 {
+    let mut run = slots::first_run();
     let mut i: u16 = 0;
     while i < n {
-        if !entry_formed(configuration, fields, i) {
+        let here = slots::run_to(configuration, run, i);
+        run = here;
+        let at = slots::slot_in(here, i);
+        if !entry_formed(fields, at, i) {
             return false;
         }
         i += 1;
@@ -41,14 +53,19 @@ fn entries_formed(configuration: &[u8], fields: &[u8], n: u16) -> bool
 }
 
 fn put_slots(configuration: &[u8], fields: &[u8], out: &mut [u8], n: u16)
+    requires { ⌜ HasFront (now configuration) ⌝ }
+    requires { ⌜ n ≤ slotsOf (now configuration) ⌝ }
+    requires { ⌜ entryPlace n ≤ length (now fields) ⌝ }
+    requires { ⌜ slotPlace n ≤ length (now out) ⌝ }
     ensures { λ _. ⌜ now (out .exit) ≡ slotsPut (slotRow (now (configuration .entry)) (entryAt (now (fields .entry)))) (now (out .entry)) n ⌝ }
 {
+    let mut run = slots::first_run();
     let mut i: u16 = 0;
     while i < n {
-        let e = page::slot_bytes(
-            slots::slot_at(configuration, i),
-            status_record::entry_at(fields, i),
-        );
+        let here = slots::run_to(configuration, run, i);
+        run = here;
+        let at = slots::slot_in(here, i);
+        let e = page::slot_bytes(at, status_record::entry_at(fields, i));
         bits::put_four(out, slots::slot_place(i), e);
         i += 1;
     }

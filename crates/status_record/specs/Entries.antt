@@ -1,9 +1,9 @@
 -- A status record: page bits, number of entries, and an entry of 16 bytes for each slot of the page. Assumes nothing.
 use mathlib.Core.Bool.{Bool, _&&_}
 use mathlib.Core.List.{List, [], _∷_, _++_}
-use Prim.Native.Nat.{ℕ, zero, suc, _+_, _*_}
+use Prim.Native.Nat.{ℕ, zero, suc, _+_, _*_, _≤_}
 use lib.Dec.{eqb, leb}
-use lib.ListN.{getD}
+use lib.ListN.{length, getD}
 use Rattle.bits.specs.Bits.{num}
 use Rattle.bits.specs.Numbers.{big, bytes}
 use Rattle.bits.specs.Rows.{joined}
@@ -13,6 +13,10 @@ use Rattle.shows.specs.declared.PageBits.{PageBits}
 
 abbrev pub entryPlace : ℕ → ℕ
 entryPlace i = 4 + 16 * i
+
+-- the record f has the bytes of entry i
+abbrev pub HasEntry : List ℕ → ℕ → Type 0
+HasEntry f i = entryPlace i + 16 ≤ length f
 
 -- the four rows of an entry
 abbrev pub row0 : Shown → List ℕ

@@ -1,11 +1,13 @@
-// A status fields: what a reader hands back. Two page bits, the number of entries, and an entry of 16 bytes for each slot of the page.
+// A status record: what a reader hands back. Two page bits, the number of entries, and an entry of 16 bytes for each slot of the page.
 use kinds::settings::Settings;
 use shelf::limits;
 use shown::Shown;
 use shows::PageBits;
 use verdicts::verdict::Verdict;
 ghost use mathlib.Core.Path.{_≡_};
-ghost use Rattle.status_record.specs.Entries.{row0, row1, row2, row3, entryPlace, entryPut, entryAt, flagsFormed, headPut, bitsAt, entriesIn, bitsFormed};
+ghost use Prim.Native.Nat.{_≤_};
+ghost use lib.ListN.{length};
+ghost use Rattle.status_record.specs.Entries.{row0, row1, row2, row3, entryPlace, HasEntry, entryPut, entryAt, flagsFormed, headPut, bitsAt, entriesIn, bitsFormed};
 
 // A record has room for an entry of each slot.
 pub const LENGTH: usize = 4 + 16 * (limits::MOST_TYPES as usize + limits::MOST_ELEMENTS as usize);
@@ -60,6 +62,7 @@ fn row3(x: Shown) -> [u8; 4]
 }
 
 pub fn put_entry(fields: &mut [u8], i: u16, x: Shown)
+    requires { ⌜ HasEntry (now fields) i ⌝ }
     ensures { λ _. ⌜ now (fields .exit) ≡ entryPut (now (fields .entry)) i x ⌝ }
 {
     let k = entry_place(i);
@@ -70,6 +73,7 @@ pub fn put_entry(fields: &mut [u8], i: u16, x: Shown)
 }
 
 pub fn entry_at(fields: &[u8], i: u16) -> Shown
+    requires { ⌜ HasEntry (now fields) i ⌝ }
     ensures { λ r. ⌜ r ≡ entryAt (now (fields .entry)) i ⌝ }
 {
     let k = entry_place(i);
@@ -102,6 +106,7 @@ pub fn entry_at(fields: &[u8], i: u16) -> Shown
 
 // Each flag of an entry is 0 or 1.
 pub fn flags_formed(fields: &[u8], i: u16) -> bool
+    requires { ⌜ HasEntry (now fields) i ⌝ }
     ensures { λ r. ⌜ r ≡ flagsFormed (now (fields .entry)) i ⌝ }
 {
     let k = entry_place(i);
@@ -123,6 +128,7 @@ pub fn flags_formed(fields: &[u8], i: u16) -> bool
 
 // The page bits and the number of entries.
 pub fn put_head(fields: &mut [u8], flags: PageBits, n: u16)
+    requires { ⌜ 4 ≤ length (now fields) ⌝ }
     ensures { λ _. ⌜ now (fields .exit) ≡ headPut (now (fields .entry)) flags n ⌝ }
 {
     let head = [
@@ -135,6 +141,7 @@ pub fn put_head(fields: &mut [u8], flags: PageBits, n: u16)
 }
 
 pub fn bits_at(fields: &[u8]) -> PageBits
+    requires { ⌜ 4 ≤ length (now fields) ⌝ }
     ensures { λ r. ⌜ r ≡ bitsAt (now (fields .entry)) ⌝ }
 {
     let e = bits::four_at(fields, 0);
@@ -145,6 +152,7 @@ pub fn bits_at(fields: &[u8]) -> PageBits
 }
 
 pub fn bits_formed(fields: &[u8]) -> bool
+    requires { ⌜ 4 ≤ length (now fields) ⌝ }
     ensures { λ r. ⌜ r ≡ bitsFormed (now (fields .entry)) ⌝ }
 {
     let e = bits::four_at(fields, 0);
@@ -153,6 +161,7 @@ pub fn bits_formed(fields: &[u8]) -> bool
 
 // The number of entries.
 pub fn count(fields: &[u8]) -> u16
+    requires { ⌜ 4 ≤ length (now fields) ⌝ }
     ensures { λ r. ⌜ r ≡ entriesIn (now (fields .entry)) ⌝ }
 {
     bits::big16_at(fields, 2)

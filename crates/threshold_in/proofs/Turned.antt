@@ -1,20 +1,17 @@
 -- What each step of writing and testing threshold rows comes to, from what the calls say. Assumes nothing.
-use mathlib.Core.Path.{_≡_, sym, _∙_}
-use mathlib.Core.Bool.{true, false}
+use mathlib.Core.Path.{_≡_, _∙_}
 use mathlib.Core.List.{List, [], _∷_}
 use Prim.Native.Nat.{ℕ}
-use Rattle.bits.proofs.Logic.{pick-yes, pick-no}
+use Rattle.bits.specs.Choice.{pick}
 use Rattle.shelf.specs.Elements.{thresholdsAt}
 use Rattle.pages.specs.declared.slots.Slot.{Slot}
-use Rattle.pages.specs.Slots.{slotAt}
+use Rattle.pages.specs.declared.slots.SlotRun.{SlotRun}
+use Rattle.pages.specs.Slots.{slotAt, slotRun, slotIn}
+use Rattle.pages.proofs.Walked.{slot-walked}
 use Rattle.threshold_in.specs.Page.{thresholdRow}
 
 -- the four bytes that a shelf gives for slot i
-module _ (s : List ℕ) (i : ℕ) {at : Slot} (q : at ≡ slotAt s i) where
-  pub row-overall : at .overall ≡ true → 0 ∷ 0 ∷ 0 ∷ 0 ∷ [] ≡ thresholdRow s i
-  unfolding thresholdRow
-  row-overall o = sym (pick-yes _ _ _ (rw q at o))
-
-  pub row-element : {e : List ℕ} → at .overall ≡ false → e ≡ thresholdsAt s (at .first) → e ≡ thresholdRow s i
-  unfolding thresholdRow
-  row-element o r = r ∙ rw q (sym (pick-no _ _ _ (rw q at o)))
+pub row-is : (s : List ℕ) (i : ℕ) {r : SlotRun} {at : Slot} {e : List ℕ} → r ≡ slotRun s i → at ≡ slotIn r i
+    → e ≡ pick (at .overall) (0 ∷ 0 ∷ 0 ∷ 0 ∷ []) (thresholdsAt s (at .first)) → e ≡ thresholdRow s i
+unfolding thresholdRow
+row-is s i q u h = h ∙ rw (slot-walked s i q u)

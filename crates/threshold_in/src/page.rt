@@ -2,21 +2,26 @@
 use opening::Opened;
 use pages::header;
 use pages::slots;
+use pages::slots::Slot;
 use refusals::Refusal;
 use refusals::Written;
 use shelf::elements;
 ghost use mathlib.Core.Path.{_≡_};
+ghost use mathlib.Core.List.{[], _∷_};
+ghost use Rattle.bits.specs.Choice.{pick};
+ghost use Rattle.shelf.specs.Elements.{thresholdsAt};
 ghost use Rattle.refusals.specs.Outcomes.{writes, outAfter};
-ghost use Rattle.pages.specs.Slots.{slotsPut};
-ghost use Rattle.pages.specs.Header.{shelfAsked};
+ghost use Rattle.pages.specs.Slots.{slotsOf, slotsPut, HasElements};
+ghost use Rattle.pages.specs.Header.{shelfAsked, HasPage};
 ghost use Rattle.threshold_in.specs.Page.{thresholdRow, thresholdPage};
 
 pub const CODE: u8 = 0x05;
 
-fn threshold_row(shelf: &[u8], i: u16) -> [u8; 4]
-    ensures { λ r. ⌜ r ≡ thresholdRow (now (shelf .entry)) i ⌝ }
+// The four bytes of a slot.
+fn threshold_row(shelf: &[u8], at: Slot) -> [u8; 4]
+    requires { ⌜ HasElements (now shelf) at ⌝ }
+    ensures { λ r. ⌜ r ≡ pick (at .overall) (0 ∷ 0 ∷ 0 ∷ 0 ∷ []) (thresholdsAt (now (shelf .entry)) (at .first)) ⌝ }
 {
-    let at = slots::slot_at(shelf, i);
     if at.overall {
         [0, 0, 0, 0]
     } else {
@@ -25,11 +30,17 @@ fn threshold_row(shelf: &[u8], i: u16) -> [u8; 4]
 }
 
 fn put_slots(shelf: &[u8], out: &mut [u8], n: u16)
+    requires { ⌜ HasPage (now shelf) (now out) ⌝ }
+    requires { ⌜ n ≡ slotsOf (now shelf) ⌝ }
     ensures { λ _. ⌜ now (out .exit) ≡ slotsPut (thresholdRow (now (shelf .entry))) (now (out .entry)) n ⌝ }
 {
+    let mut run = slots::first_run();
     let mut i: u16 = 0;
     while i < n {
-        bits::put_four(out, slots::slot_place(i), threshold_row(shelf, i));
+        let here = slots::run_to(shelf, run, i);
+        run = here;
+        let at = slots::slot_in(here, i);
+        bits::put_four(out, slots::slot_place(i), threshold_row(shelf, at));
         i += 1;
     }
 }

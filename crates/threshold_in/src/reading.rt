@@ -6,6 +6,8 @@ use refusals::Answer;
 use refusals::Refusal;
 use shelf::limits;
 ghost use mathlib.Core.Path.{_≡_};
+ghost use Prim.Native.Nat.{_≤_};
+ghost use lib.ListN.{length};
 ghost use Rattle.refusals.specs.Outcomes.{recordAfter};
 ghost use Rattle.threshold_in.specs.Read.{headPut, thresholdRead, thresholdRecord};
 
@@ -14,6 +16,7 @@ pub const LENGTH: usize = 4 + 4 * (limits::MOST_TYPES as usize + limits::MOST_EL
 
 // Two bytes that hold nothing, and the number of entries.
 fn put_head(fields: &mut [u8], n: u16)
+    requires { ⌜ 4 ≤ length (now fields) ⌝ }
     ensures { λ _. ⌜ now (fields .exit) ≡ headPut (now (fields .entry)) n ⌝ }
 {
     bits::put_four(fields, 0, [0, 0, (n / 256 % 256) as u8, (n % 256) as u8]);

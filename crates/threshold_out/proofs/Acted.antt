@@ -1,5 +1,6 @@
 -- What a Threshold Out page makes of one element and of all, from what the calls say. Assumes nothing.
 use mathlib.Core.Path.{_≡_, refl, sym, ap, _∙_}
+use mathlib.Core.Bool.{true}
 use mathlib.Core.List.{List}
 use Prim.Native.Nat.{ℕ, _+_, _<_}
 use native.Mathlib.Omega.{arith}
@@ -11,14 +12,18 @@ use Rattle.verdicts.specs.Thresholds.{taken}
 use Rattle.refusals.specs.declared.Refusal.{Refusal}
 use Rattle.refusals.specs.declared.Answer.{Answer}
 use Rattle.refusals.specs.declared.Answer.the-variants.{Accepted, Refused}
-use Rattle.shelf.specs.Limits.{elementPlace, thresholdsPlace}
+use Rattle.shelf.specs.Limits.{elementPlace, thresholdsPlace, HasElement}
 use Rattle.shelf.specs.Types.{elementsOf}
+use Rattle.opening.proofs.Fronts.{front}
 use Rattle.shelf.specs.Elements.{thresholdsAt, thresholdsPut}
 use Rattle.opening.proofs.Changed.{front-after, row-later}
 use Rattle.pages.specs.declared.places.Places.{Places}
-use Rattle.pages.specs.Places.{placesOf}
-use Rattle.pages.proofs.Paired.{places-alike}
+use Rattle.pages.specs.Places.{placesOf, HasSlots}
+use Rattle.pages.specs.Header.{HasPage}
+use Rattle.pages.proofs.HeadAgain.{asked-has}
+use Rattle.pages.proofs.Paired.{places-alike, element-there}
 use Rattle.threshold_out.specs.Asked.{thresholdsAsked, valid}
+use Rattle.threshold_out.proofs.Valid.{valid-headed}
 use Rattle.threshold_out.specs.Taken.{takenAt, thresholdsAfter, takenFrom, withThresholds}
 
 -- one element
@@ -54,6 +59,14 @@ module _ (s p : List ℕ) where
   act-next j l e q h =
       fours-next thresholdsPlace (thresholdsAfter s p) s j e refl (q ∙ ap (λ (z : List ℕ). thresholdsAfter z p j) e ∙ same-after j l) h
 
+  -- nor the front, and so the walk; and there are the bytes that are read for it: its own, and its two slots
+  module _ (j : ℕ) {x : List ℕ} (e : x ≡ partly j) where
+    pub same-front : front x ≡ front s
+    same-front = ap front e ∙ front-after thresholdsPlace 4 thresholds-place (omega arith) (thresholdsAfter s p) s j
+
+    pub act-room : HasPage s p → j < elementsOf s → HasElement x j × HasSlots p (placesOf x j)
+    act-room h l = element-there s p h x same-front (fours-length thresholdsPlace (thresholdsAfter s p) s j e) j l
+
   pub partly-length : (n : ℕ) {x : List ℕ} → x ≡ partly n → length x ≡ length s
   partly-length n e = fours-length thresholdsPlace (thresholdsAfter s p) s n e
 
@@ -66,6 +79,10 @@ module _ (s p : List ℕ) where
     pub refused-after : {r : Refusal} → a ≡ Refused r → s ≡ pick (valid s p) (withThresholds s (takenFrom s p)) s
     unfolding valid
     refused-after u = sym (rw (← h, u))
+
+    pub accepted-room : a ≡ Accepted → HasPage s p
+    unfolding valid
+    accepted-room u = let v : valid s p ≡ true = rw (← h, u) in asked-has s p 0x05 (valid-headed s p v)
 
     pub accepted-after : {x : List ℕ} → a ≡ Accepted → x ≡ withThresholds s (takenFrom s p) → x ≡ pick (valid s p) (withThresholds s (takenFrom s p)) s
     unfolding valid

@@ -40,8 +40,11 @@ module _ (s p : List ℕ) (v : valid s p ≡ true) where
       let h2 = held (allHad s p onPage (slotsOf s)) NoSuchThreshold r3 (h1 .1) in
       (h .0, h2 .0, held (allOrdered s p) ThresholdOrder Accepted (h2 .1) .0)
 
+  pub valid-headed : pageAsked s p 0x05 ≡ Accepted
+  valid-headed = parts .0
+
   pub valid-formed : wellFormed s ≡ true
-  valid-formed = asked-formed s p 0x05 (parts .0)
+  valid-formed = asked-formed s p 0x05 valid-headed
 
   row-had : (i : ℕ) → i < slotsOf s → had (slotAt s i .kind) (fourAt p (slotPlace i)) ≡ true
   unfolding allHad rowHad

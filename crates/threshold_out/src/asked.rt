@@ -1,32 +1,42 @@
 // Which Threshold Out pages a shelf accepts.
 use crate::acting;
 use pages::places;
+use pages::places::Places;
 use pages::slots;
 use refusals::Answer;
 use refusals::Refusal;
 use shelf::types;
 use verdicts::thresholds;
 ghost use mathlib.Core.Path.{_≡_};
+ghost use Rattle.shelf.specs.Limits.{HasElement};
+ghost use Rattle.pages.specs.Places.{placesOf, HasSlots};
+ghost use Rattle.pages.specs.Header.{HasPage};
 ghost use Rattle.threshold_out.specs.Asked.{elementOrdered, allOrdered, thresholdsAsked};
 
 const CODE: u8 = 0x05;
 
 // Element j would keep the threshold order.
-fn element_ordered(shelf: &[u8], page: &[u8], j: u16) -> bool
+fn element_ordered(shelf: &[u8], page: &[u8], at: Places, j: u16) -> bool
+    requires { ⌜ HasElement (now shelf) j ⌝ }
+    requires { ⌜ HasSlots (now page) at ⌝ }
+    requires { ⌜ at ≡ placesOf (now shelf) j ⌝ }
     ensures { λ r. ⌜ r ≡ elementOrdered (now (shelf .entry)) (now (page .entry)) j ⌝ }
 {
-    let at = places::places_of(shelf, j);
     let kind = at.kind;
     thresholds::are_ordered(kind, acting::taken_at(shelf, page, at, j))
 }
 
 fn all_ordered(shelf: &[u8], page: &[u8]) -> bool
+    requires { ⌜ HasPage (now shelf) (now page) ⌝ }
     ensures { λ r. ⌜ r ≡ allOrdered (now (shelf .entry)) (now (page .entry)) ⌝ }
 {
     let n = types::all_elements(shelf);
+    let mut run = types::first_run(shelf);
     let mut j: u16 = 0;
     while j < n {
-        if !element_ordered(shelf, page, j) {
+        let here = types::run_to(shelf, run, j);
+        run = here;
+        if !element_ordered(shelf, page, places::places_in(here, j), j) {
             return false;
         }
         j += 1;

@@ -1,19 +1,19 @@
 -- The tests of all rows one after the other, and what they say of each row. Assumes nothing.
 use mathlib.Core.Path.{_≡_, refl, sym, ap, _∙_}
-use mathlib.Core.Bool.{true, false, not}
+use mathlib.Core.Bool.{Bool, true, false, not}
 use mathlib.Core.List.{List}
 use Prim.Native.Nat.{ℕ, _<_}
 use native.Mathlib.Omega.{arith}
 use lib.Dec.{eqb, ltb}
-use Rattle.bits.specs.Choice.{pick, refusedIn}
+use Rattle.bits.specs.Choice.{pick, allBelow, refusedIn}
 use Rattle.refusals.specs.declared.Refusal.the-variants.{NotAllowed, NoSuchThreshold, ThresholdOrder}
 use Rattle.refusals.specs.declared.Answer.{Answer}
 use Rattle.refusals.specs.Outcomes.{unless}
 use Rattle.pages.specs.Slots.{slotAt}
 use Rattle.bits.proofs.Offence.{row-fine}
-use Rattle.threshold_rows.proofs.Turned.{none-refused}
+use Rattle.threshold_rows.proofs.Turned.{row-refused, none-refused}
 use Rattle.threshold_rows.specs.Rows.{rowPlace, offence, allHad, allOrdered, rowsAsked, rowAt, firstSet, rowOffending, rowHad, rowOrdered}
-use borrow.Author.Tests.{eqb-true, eq-eqb}
+use borrow.Author.Tests.{eqb-true, eq-eqb, ne-eqb}
 use Rattle.bits.proofs.Logic.{fails, below-at, below-all}
 use Rattle.verdicts.specs.Thresholds.{had, ordered}
 use Rattle.refusals.specs.declared.Answer.the-variants.{Accepted}
@@ -22,25 +22,31 @@ use Rattle.refusals.specs.declared.Answer.the-variants as answer
 use Rattle.refusals.specs.declared.Written.the-variants as written
 use Rattle.pages.specs.Header as pages
 
--- the tests of all rows
-module _ (c b : List ℕ) (k n : ℕ) {x m : ℕ} (p : x ≡ offence c b k n) (q : m ≡ rowPlace k n) where
-  pub refused-byte : eqb x m ≡ false → answer.Refused NotAllowed ≡ rowsAsked c b k n
+-- the tests of all rows, from what one pass finds
+module _ (c b : List ℕ) (k n : ℕ) where
+  pub refused-row : (i : ℕ) {j : ℕ} → i < n → allBelow (fails (refusedIn (rowOffending c b k))) i ≡ true → j ≡ rowOffending c b k i → j < 4
+      → answer.Refused NotAllowed ≡ rowsAsked c b k n
   unfolding rowsAsked
-  refused-byte e = rw (← p, ← q, e)
+  refused-row i {j} l a q t =
+      let e = row-refused c b k n i l a q t refl in
+      rw (ne-eqb (offence c b k n) (rowPlace k n) (λ z. omega (arith, z, e, l, t)))
 
-  module _ (e : eqb x m ≡ true) where
-    pub not-had : allHad c b k n ≡ false → answer.Refused NoSuchThreshold ≡ rowsAsked c b k n
-    unfolding rowsAsked
-    not-had h = rw (← p, ← q, e, h)
+  module _ (a : allBelow (fails (refusedIn (rowOffending c b k))) n ≡ true) where
+    none : eqb (offence c b k n) (rowPlace k n) ≡ true
+    none = eq-eqb (offence c b k n) (rowPlace k n) (sym (none-refused c b k n a refl))
 
-    module _ (h : allHad c b k n ≡ true) where
-      pub not-ordered : allOrdered c b k n ≡ false → answer.Refused ThresholdOrder ≡ rowsAsked c b k n
-      unfolding rowsAsked
-      not-ordered o = rw (← p, ← q, e, h, o)
+    module _ {h o : Bool} (p : h ≡ allBelow (rowHad c b k) n) (q : o ≡ allBelow (rowOrdered c b k) n) where
+      pub not-had : h ≡ false → answer.Refused NoSuchThreshold ≡ rowsAsked c b k n
+      unfolding rowsAsked allHad
+      not-had u = rw (none, ← p, u)
 
-      pub rows-passed : allOrdered c b k n ≡ true → answer.Accepted ≡ rowsAsked c b k n
-      unfolding rowsAsked
-      rows-passed o = rw (← p, ← q, e, h, o)
+      pub not-ordered : h ≡ true → o ≡ false → answer.Refused ThresholdOrder ≡ rowsAsked c b k n
+      unfolding rowsAsked allHad allOrdered
+      not-ordered u v = rw (none, ← p, u, ← q, v)
+
+      pub rows-passed : h ≡ true → o ≡ true → answer.Accepted ≡ rowsAsked c b k n
+      unfolding rowsAsked allHad allOrdered
+      rows-passed u v = rw (none, ← p, u, ← q, v)
 
 -- the rows are accepted just where each of them passes the three tests
 module _ (c b : List ℕ) (k : ℕ) where
@@ -62,11 +68,9 @@ module _ (c b : List ℕ) (k : ℕ) where
         )
 
     pub fine-rows : ((i : ℕ) → i < n → Fine i) → rowsAsked c b k n ≡ Accepted
-    unfolding allHad allOrdered
     fine-rows h =
         sym
-        (rows-passed c b k n (none-refused c b k n (below-all (fails (refusedIn (rowOffending c b k))) n (λ i l. ap not (h i l .0))) refl) refl
-        (eq-eqb (rowPlace k n) (rowPlace k n) refl)
+        (rows-passed c b k n (below-all (fails (refusedIn (rowOffending c b k))) n (λ i l. ap not (h i l .0))) refl refl
         (below-all (rowHad c b k) n (λ i l. h i l .1))
         (below-all (rowOrdered c b k) n (λ i l. h i l .2)))
 

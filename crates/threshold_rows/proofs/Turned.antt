@@ -1,33 +1,31 @@
 -- What each step of testing threshold rows comes to, from what the calls say. Assumes nothing.
-use mathlib.Core.Path.{_≡_, sym, ap, _∙_}
-use mathlib.Core.Bool.{Bool, true, false}
+use mathlib.Core.Path.{_≡_, _∙_}
+use mathlib.Core.Bool.{Bool, true, _&&_}
 use mathlib.Core.List.{List}
 use Prim.Native.Nat.{ℕ, _+_, _<_}
-use Rattle.bits.specs.Choice.{allBelow, refusedIn}
-use Rattle.bits.proofs.Logic.{pick-yes, pick-no, fails}
+use native.Mathlib.Numerals.{add-one}
+use Rattle.bits.specs.Choice.{pick, allBelow, refusedIn}
+use Rattle.bits.proofs.Logic.{fails}
 use Rattle.bits.proofs.Offence.{refused-at, refused-none}
 use Rattle.verdicts.specs.Thresholds.{had, ordered}
-use Rattle.pages.specs.declared.slots.Slot.{Slot}
-use Rattle.pages.specs.Slots.{slotAt}
+use Rattle.pages.specs.declared.slots.SlotRun.{SlotRun}
+use Rattle.pages.specs.Slots.{slotRun}
+use Rattle.pages.proofs.Walked.{run-kind, run-overall}
 use Rattle.threshold_rows.specs.Rows.{rowPlace, rowAt, firstSet, rowOffending, offence, rowHad, rowOrdered}
 
 -- one row's tests
-module _ (c b : List ℕ) (k i : ℕ) {at : Slot} {e : List ℕ} (q : at ≡ slotAt c i) (h : e ≡ rowAt b k i) where
-  pub offends-overall : {n : ℕ} → at .overall ≡ true → n ≡ firstSet e → n ≡ rowOffending c b k i
+module _ (c b : List ℕ) (k i : ℕ) {r : SlotRun} {e : List ℕ} (q : r ≡ slotRun c i) (u : e ≡ rowAt b k i) where
+  pub row-offends : {n : ℕ} → n ≡ pick (r .overall) (firstSet e) 4 → n ≡ rowOffending c b k i
   unfolding rowOffending
-  offends-overall o r = r ∙ ap firstSet h ∙ sym (pick-yes _ _ _ (rw q at o))
+  row-offends h = h ∙ rw (u, run-overall c i q)
 
-  pub offends-element : at .overall ≡ false → 4 ≡ rowOffending c b k i
-  unfolding rowOffending
-  offends-element o = sym (pick-no _ _ _ (rw q at o))
-
-  pub row-had : {t : Bool} → t ≡ had (at .kind) e → t ≡ rowHad c b k i
+  pub row-had : {t : Bool} → t ≡ had (r .kind) e → t ≡ rowHad c b k i
   unfolding rowHad
-  row-had r = r ∙ rw (q, h)
+  row-had h = h ∙ rw (u, run-kind c i q)
 
-  pub row-ordered : {t : Bool} → t ≡ ordered (at .kind) e → t ≡ rowOrdered c b k i
+  pub row-ordered : {t : Bool} → t ≡ ordered (r .kind) e → t ≡ rowOrdered c b k i
   unfolding rowOrdered
-  row-ordered r = r ∙ rw (q, h)
+  row-ordered h = h ∙ rw (u, run-kind c i q)
 
 -- the search for a refused byte
 module _ (c b : List ℕ) (k n : ℕ) where
@@ -39,3 +37,7 @@ module _ (c b : List ℕ) (k n : ℕ) where
   pub none-refused : {m : ℕ} → allBelow (fails (refusedIn (rowOffending c b k))) n ≡ true → m ≡ rowPlace k n → m ≡ offence c b k n
   unfolding offence
   none-refused a u = refused-none (rowPlace k) (rowOffending c b k) n a u
+
+-- one row more
+pub and-next : (f : ℕ → Bool) (i : ℕ) {a b : Bool} → a ≡ allBelow f i → b ≡ f i → a && b ≡ allBelow f (i + 1)
+and-next f i p q = rw (add-one, p, q)

@@ -1,9 +1,9 @@
 -- Rows of four threshold bytes in a block b, from the place k on: the slots of a page, or the entries of a record. Assumes nothing.
 use mathlib.Core.Bool.{Bool, not}
 use mathlib.Core.List.{List}
-use Prim.Native.Nat.{ℕ, _+_, _*_}
+use Prim.Native.Nat.{ℕ, _+_, _*_, _≤_}
 use lib.Dec.{eqb}
-use lib.ListN.{getD}
+use lib.ListN.{length, getD}
 use Rattle.bits.specs.Choice.{pick, allBelow, firstBelow, offenceIn}
 use Rattle.bits.specs.Places.{fourAt}
 use Rattle.verdicts.specs.Thresholds.{had, ordered}
@@ -11,7 +11,8 @@ use Rattle.refusals.specs.declared.Refusal.the-variants.{NotAllowed, NoSuchThre
 use Rattle.refusals.specs.declared.Answer.{Answer}
 use Rattle.refusals.specs.declared.Answer.the-variants.{Accepted}
 use Rattle.refusals.specs.Outcomes.{unless}
-use Rattle.pages.specs.Slots.{slotAt}
+use Rattle.opening.specs.Formed.{HasFront}
+use Rattle.pages.specs.Slots.{slotsOf, slotAt}
 
 -- where the rows start
 abbrev pub onPage : ℕ
@@ -25,6 +26,10 @@ rowPlace k i = k + 4 * i
 
 abbrev pub rowAt : List ℕ → ℕ → ℕ → List ℕ
 rowAt b k i = fourAt b (rowPlace k i)
+
+-- the configuration c has n slots or more, and the block b a row for each
+abbrev pub HasRows : List ℕ → List ℕ → ℕ → ℕ → Type 0
+HasRows c b k n = HasFront c × (n ≤ slotsOf c) × (rowPlace k n ≤ length b)
 
 -- the first of four bytes that is not zero, 4 if none is
 abbrev pub isSet : List ℕ → ℕ → Bool

@@ -6,7 +6,10 @@ use refusals::Answer;
 use refusals::Refusal;
 use verdicts::thresholds;
 ghost use mathlib.Core.Path.{_≡_};
-ghost use Rattle.threshold_rows.specs.Rows.{rowPlace, rowAt, firstSet, rowOffending, offence, rowHad, allHad, rowOrdered, allOrdered, rowsAsked};
+ghost use Prim.Native.Nat.{_+_, _≤_};
+ghost use lib.ListN.{length};
+ghost use Rattle.bits.specs.Choice.{pick};
+ghost use Rattle.threshold_rows.specs.Rows.{rowPlace, rowAt, HasRows, firstSet, allHad, rowsAsked};
 
 // Where the rows start.
 pub const ON_PAGE: u16 = 8;
@@ -20,6 +23,7 @@ fn row_place(start: u16, i: u16) -> u32
 }
 
 fn row_at(block: &[u8], start: u16, i: u16) -> [u8; 4]
+    requires { ⌜ rowPlace start i + 4 ≤ length (now block) ⌝ }
     ensures { λ r. ⌜ r ≡ rowAt (now (block .entry)) start i ⌝ }
 {
     bits::four_at(block, row_place(start, i))
@@ -42,44 +46,24 @@ fn first_set(e: [u8; 4]) -> u8
     }
 }
 
-// The first byte of row i that is refused; 4 if none is.
-fn row_offending(configuration: &[u8], block: &[u8], start: u16, i: u16) -> u8
-    ensures { λ r. ⌜ r ≡ rowOffending (now (configuration .entry)) (now (block .entry)) start i ⌝ }
+// The first byte of a row, an overall one or not, that is refused; 4 if none is.
+fn row_offending(overall: bool, e: [u8; 4]) -> u8
+    ensures { λ r. ⌜ r ≡ pick overall (firstSet e) 4 ⌝ }
 {
-    let at = slots::slot_at(configuration, i);
-    let e = row_at(block, start, i);
-    if at.overall { first_set(e) } else { 4 }
-}
-
-// Where the first refused byte of n rows stands; where the rows end if none is.
-fn first_offence(configuration: &[u8], block: &[u8], start: u16, n: u16) -> u32
-    ensures { λ r. ⌜ r ≡ offence (now (configuration .entry)) (now (block .entry)) start n ⌝ }
-{
-    let mut i: u16 = 0;
-    while i < n {
-        let k = row_offending(configuration, block, start, i);
-        if k < 4 {
-            return row_place(start, i) + k as u32;
-        }
-        i += 1;
-    }
-    row_place(start, n)
-}
-
-fn row_had(configuration: &[u8], block: &[u8], start: u16, i: u16) -> bool
-    ensures { λ r. ⌜ r ≡ rowHad (now (configuration .entry)) (now (block .entry)) start i ⌝ }
-{
-    let at = slots::slot_at(configuration, i);
-    let kind = at.kind;
-    thresholds::are_had(kind, row_at(block, start, i))
+    if overall { first_set(e) } else { 4 }
 }
 
 pub fn all_had(configuration: &[u8], block: &[u8], start: u16, n: u16) -> bool
+    requires { ⌜ HasRows (now configuration) (now block) start n ⌝ }
     ensures { λ r. ⌜ r ≡ allHad (now (configuration .entry)) (now (block .entry)) start n ⌝ }
 {
+    let mut run = slots::first_run();
     let mut i: u16 = 0;
     while i < n {
-        if !row_had(configuration, block, start, i) {
+        let here = slots::run_to(configuration, run, i);
+        run = here;
+        let kind = here.kind;
+        if !thresholds::are_had(kind, row_at(block, start, i)) {
             return false;
         }
         i += 1;
@@ -87,38 +71,31 @@ pub fn all_had(configuration: &[u8], block: &[u8], start: u16, n: u16) -> bool
     true
 }
 
-fn row_ordered(configuration: &[u8], block: &[u8], start: u16, i: u16) -> bool
-    ensures { λ r. ⌜ r ≡ rowOrdered (now (configuration .entry)) (now (block .entry)) start i ⌝ }
-{
-    let at = slots::slot_at(configuration, i);
-    let kind = at.kind;
-    thresholds::are_ordered(kind, row_at(block, start, i))
-}
-
-fn all_ordered(configuration: &[u8], block: &[u8], start: u16, n: u16) -> bool
-    ensures { λ r. ⌜ r ≡ allOrdered (now (configuration .entry)) (now (block .entry)) start n ⌝ }
-{
-    let mut i: u16 = 0;
-    while i < n {
-        if !row_ordered(configuration, block, start, i) {
-            return false;
-        }
-        i += 1;
-    }
-    true
-}
-
-// Each test is asked of all n rows before the next.
+// One pass over n rows. A refused byte of any is told before a threshold that a type does not have, and that before the order.
 pub fn test(configuration: &[u8], block: &[u8], start: u16, n: u16) -> Answer
+    requires { ⌜ HasRows (now configuration) (now block) start n ⌝ }
     ensures { λ r. ⌜ r ≡ rowsAsked (now (configuration .entry)) (now (block .entry)) start n ⌝ }
 {
-    if first_offence(configuration, block, start, n) != row_place(start, n) {
-        return Answer::Refused(Refusal::NotAllowed);
+    let mut had = true;
+    let mut ordered = true;
+    let mut run = slots::first_run();
+    let mut i: u16 = 0;
+    while i < n {
+        let here = slots::run_to(configuration, run, i);
+        run = here;
+        let kind = here.kind;
+        let e = row_at(block, start, i);
+        if row_offending(here.overall, e) < 4 {
+            return Answer::Refused(Refusal::NotAllowed);
+        }
+        had = had & thresholds::are_had(kind, e);
+        ordered = ordered & thresholds::are_ordered(kind, e);
+        i += 1;
     }
-    if !all_had(configuration, block, start, n) {
+    if !had {
         return Answer::Refused(Refusal::NoSuchThreshold);
     }
-    if !all_ordered(configuration, block, start, n) {
+    if !ordered {
         return Answer::Refused(Refusal::ThresholdOrder);
     }
     Answer::Accepted

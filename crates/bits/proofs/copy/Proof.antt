@@ -1,5 +1,5 @@
 -- `bits::copy` meets its contract. Assumes nothing.
-use Rattle.bits.proofs.Rows.{copy-start, copy-next, copied, not-copied}
+use Rattle.bits.proofs.Rows.{copy-start, copy-next, copied}
 use mathlib.Core.Path.{_≡_, refl, _∙_}
 use mathlib.Core.List.{_++_}
 use Prim.Native.Nat.{_+_, _≤_, _-_}
@@ -17,11 +17,8 @@ Inv-loop from at to₀ place n k i₀ to i = (i ≤ n) × (length to ≡ length 
 abbrev μ-loop : tie.MeasureT-loop
 μ-loop from at to₀ place n k i₀ to i = n - i
 
-add-if1 : tie.Need-add-if1 Inv-loop μ-loop
-add-if1 c = search needs
-
 loop-holds : tie.Need-loop-holds Inv-loop μ-loop
-loop-holds c = let s = c .before .before .before .args in (omega arith, refl, copy-start (now (s .to)) (s .place) (now (s .from)) (s .at))
+loop-holds c = let s = c .before .before .args in (omega arith, refl, copy-start (now (s .to)) (s .place) (now (s .from)) (s .at))
 
 add-get : tie.Need-add-get Inv-loop μ-loop
 add-get c = search needs
@@ -42,16 +39,13 @@ loop-less : tie.Need-loop-less Inv-loop μ-loop
 loop-less c = omega arith
 
 loop-again : tie.Need-loop-again Inv-loop μ-loop
-loop-again c = let s = c .before .before .before .before .before .before .args in let i = c .before .before .loop .i in let e = c .before .before .loop .inv .2 in (omega arith, length-set (c .before .before .loop .to) (s .place + i) (c .get .result) ∙ c .before .before .loop .inv .1, rw (e, c .get .ensures) (copy-next (now (s .to)) (s .place) (now (s .from)) (s .at) i (omega arith)))
+loop-again c = let s = c .before .before .before .before .before .args in let i = c .before .before .loop .i in let e = c .before .before .loop .inv .2 in (omega arith, length-set (c .before .before .loop .to) (s .place + i) (c .get .result) ∙ c .before .before .loop .inv .1, rw (e, c .get .ensures) (copy-next (now (s .to)) (s .place) (now (s .from)) (s .at) i (omega arith)))
 
 same-length : tie.Need-same-length Inv-loop μ-loop
 same-length c = search needs
 
 returns : tie.Need-returns Inv-loop μ-loop
-returns c = let s = c .before .before .before .before .before .args in let e : c .before .loop .i ≡ s .n = omega arith in rw e at (c .before .loop .inv .2) ∙ copied (now (s .to)) (s .place) (now (s .from)) (s .at) (s .n) (c .before .before .if1 .taken)
-
-returns-2 : tie.Need-returns-2 Inv-loop μ-loop
-returns-2 c = let s = c .before .before .before .args in not-copied (now (s .to)) (s .place) (now (s .from)) (s .at) (s .n) (c .if1 .left)
+returns c = let q = c .before .before .before .before in let s = q .args in let e : c .before .loop .i ≡ s .n = omega arith in rw e at (c .before .loop .inv .2) ∙ copied (now (s .to)) (s .place) (now (s .from)) (s .at) (s .n) (q .pre .1)
 
 pub copy-spec : {M : Type 1} → statement M
 copy-spec =
@@ -59,7 +53,6 @@ copy-spec =
     (tie.spec
     Inv-loop
     μ-loop
-    add-if1
     loop-holds
     add-get
     get-requires
@@ -69,5 +62,4 @@ copy-spec =
     loop-less
     loop-again
     same-length
-    returns
-    returns-2)
+    returns)

@@ -3,14 +3,11 @@ use Prim.Native.Nat.{_+_}
 use native.Mathlib.Omega.{arith}
 use denote.Ref.{now}
 use lib.ListN.{length, length-set}
-use borrow.Author.Tests.{le-leb, lt-leb}
+use borrow.Author.Tests.{le-leb}
 use Rattle.bits.specs.Places.{putFour}
 use borrow.Author.Needs.{needs}
 use Rattle.bits.proofs.put_four.Statement.{statement}
 use Rattle.bits.proofs.put_four.Tie as tie
-
-add-if1 : tie.Need-add-if1
-add-if1 c = search needs
 
 array-read-s : tie.Need-array-read-s
 array-read-s c = search needs
@@ -50,17 +47,12 @@ same-length c = search needs
 
 returns : tie.Need-returns
 unfolding putFour
-returns c = rw (le-leb (c .before .args .at + 4) (length (now (c .before .args .s))) (c .if1 .taken))
-
-returns-2 : tie.Need-returns-2
-unfolding putFour
-returns-2 c = rw (lt-leb (c .before .args .at + 4) (length (now (c .before .args .s))) (c .if1 .left))
+returns c = rw (le-leb (c .args .at + 4) (length (now (c .args .s))) (c .pre))
 
 pub put-four-spec : {M : Type 1} → statement M
 put-four-spec =
     tie.close
     (tie.spec
-    add-if1
     array-read-s
     slice-write-s
     array-read-s-2
@@ -73,5 +65,4 @@ put-four-spec =
     add-s-3
     slice-write-s-4
     same-length
-    returns
-    returns-2)
+    returns)

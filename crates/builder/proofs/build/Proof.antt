@@ -2,8 +2,10 @@
 use native.Mathlib.Omega.{arith}
 use denote.Ref.{now}
 use borrow.Author.Tests.{not-true, not-false}
+use Rattle.opening.proofs.Stored.{length-formed}
+use Rattle.pages.proofs.Bounds.{shelf-there}
 use Rattle.builder.proofs.Best.{bytes-of}
-use Rattle.builder.proofs.Kept.{wish-refused, none-reaches, page-promised}
+use Rattle.builder.proofs.Kept.{wish-refused, wish-there, none-reaches, page-promised}
 use borrow.Author.Needs.{needs}
 use Rattle.builder.proofs.build.Statement.{statement}
 use Rattle.builder.proofs.build.Tie as tie
@@ -24,16 +26,16 @@ returns : tie.Need-returns
 returns c = let s = c .before .before .before .before .before .before .before .args in wish-refused (now (s .shelf)) (now (s .wanted)) (now (s .out)) (c .before .before .before .wish .ensures) (c .before .enum-told2 .given .1) (c .refused .ensures)
 
 all-elements-requires : tie.Need-all-elements-requires
-all-elements-requires c κs = search needs
+all-elements-requires c κs = let s = c .before .before .before .before .before .before .args in shelf-there (now (s .shelf)) (wish-there (now (s .shelf)) (now (s .wanted)) (now (s .out)) (c .before .before .wish .ensures) (c .enum-told .given .1) .0) .1
 
 reach-requires : tie.Need-reach-requires
-reach-requires c κs = search needs
+reach-requires c κs = let s = c .before .before .before .before .before .before .before .args in let z = wish-there (now (s .shelf)) (now (s .wanted)) (now (s .out)) (c .before .before .before .wish .ensures) (c .before .enum-told .given .1) in (omega (arith, c .all-elements .ensures, length-formed (now (s .shelf)) (z .0)), omega (arith, c .all-elements .ensures, z .1))
 
 returns-2 : tie.Need-returns-2
 returns-2 c = let s = c .before .before .before .before .before .before .before .before .before .args in none-reaches (now (s .shelf)) (now (s .wanted)) (now (s .out)) (c .before .before .before .before .before .wish .ensures) (c .before .before .before .enum-told .given .1) (c .before .before .all-elements .ensures) (c .before .reach .ensures) (not-true _ (c .if1 .taken))
 
 write-requires : tie.Need-write-requires
-write-requires c κs = search needs
+write-requires c κs = let s = c .before .before .before .before .before .before .before .before .before .before .args in let z = wish-there (now (s .shelf)) (now (s .wanted)) (now (s .out)) (c .before .before .before .before .before .before .wish .ensures) (c .before .before .before .before .enum-told .given .1) in (z .0, omega (arith, z .1))
 
 same-length : tie.Need-same-length
 same-length c = search needs

@@ -25,7 +25,7 @@ loop-holds : tie.Need-loop-holds Inv-loop μ-loop
 loop-holds c = let s = c .before .before .before .before .args in (omega arith, omega arith, first-best (now (s .shelf)) (now (s .wanted)) (s .at) (c .before .cost .ensures))
 
 consider-requires : tie.Need-consider-requires Inv-loop μ-loop
-consider-requires c κs = (c .before .before .loop .inv .0, c .before .before .loop .inv .2)
+consider-requires c κs = let l = c .before .before .loop in (c .before .before .before .before .before .before .before .pre, ((l .inv .0, c .if2 .taken), l .inv .2))
 
 add-j : tie.Need-add-j Inv-loop μ-loop
 add-j c = omega arith

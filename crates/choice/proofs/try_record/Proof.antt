@@ -18,7 +18,7 @@ tries-requires : tie.Need-tries-requires Inv-loop μ-loop
 tries-requires c κs = search needs
 
 loop-holds : tie.Need-loop-holds Inv-loop μ-loop
-loop-holds c = (omega arith, c .before .before .before .pre)
+loop-holds c = (omega arith, c .before .before .before .pre .1)
 
 tried-requires : tie.Need-tried-requires Inv-loop μ-loop
 tried-requires c κs = search needs

@@ -5,9 +5,6 @@ use borrow.Author.Needs.{needs}
 use Rattle.opening.proofs.element_formed.Statement.{statement}
 use Rattle.opening.proofs.element_formed.Tie as tie
 
-kind-at-requires : tie.Need-kind-at-requires
-kind-at-requires c κs = search needs
-
 thresholds-at-requires : tie.Need-thresholds-at-requires
 thresholds-at-requires c κs = search needs
 
@@ -39,13 +36,12 @@ spare-clear-requires : tie.Need-spare-clear-requires
 spare-clear-requires c κs = search needs
 
 returns : tie.Need-returns
-returns c = let s = c .before .before .before .before .before .before .before .before .before .before .before .before .args in judged (now (s .shelf)) (s .j) (c .before .before .before .before .before .before .before .before .before .before .kind-at .ensures) (c .before .before .before .before .before .before .before .before .before .thresholds-at .ensures) (c .before .before .before .before .before .before .before .before .settings-at .ensures) (c .before .before .before .before .before .before .before .are-formed .ensures) (c .before .before .before .before .before .before .are-had .ensures) (c .before .before .before .before .before .are-ordered .ensures) (c .before .before .before .before .reading-at .ensures) (c .before .before .before .may-read .ensures) (c .before .before .nominal-at .ensures) (c .before .may-have-nominal .ensures) (c .spare-clear .ensures)
+returns c = let s = c .before .before .before .before .before .before .before .before .before .before .before .args in judged (now (s .shelf)) (s .j) (c .before .before .before .before .before .before .before .before .before .before .before .pre .1) (c .before .before .before .before .before .before .before .before .before .thresholds-at .ensures) (c .before .before .before .before .before .before .before .before .settings-at .ensures) (c .before .before .before .before .before .before .before .are-formed .ensures) (c .before .before .before .before .before .before .are-had .ensures) (c .before .before .before .before .before .are-ordered .ensures) (c .before .before .before .before .reading-at .ensures) (c .before .before .before .may-read .ensures) (c .before .before .nominal-at .ensures) (c .before .may-have-nominal .ensures) (c .spare-clear .ensures)
 
 pub element-formed-spec : {M : Type 1} → statement M
 element-formed-spec =
     tie.close
     (tie.spec
-    kind-at-requires
     thresholds-at-requires
     settings-at-requires
     are-formed-requires

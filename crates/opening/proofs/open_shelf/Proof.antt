@@ -3,10 +3,13 @@ use mathlib.Core.Path.{sym, _∙_}
 use denote.Ref.{now}
 use lib.ListN.{length}
 use borrow.Author.Tests.{eq-eqb, ne-eqb}
-use Rattle.opening.proofs.Stages.{no-front, no-length, no-elements, all-passed}
+use Rattle.opening.proofs.Stages.{too-short, no-front, no-length, no-elements, all-passed}
 use borrow.Author.Needs.{needs}
 use Rattle.opening.proofs.open_shelf.Statement.{statement}
 use Rattle.opening.proofs.open_shelf.Tie as tie
+
+returns : tie.Need-returns
+returns c = too-short (now (c .before .before .args .shelf)) (c .if1 .taken)
 
 front-requires : tie.Need-front-requires
 front-requires c κs = search needs
@@ -17,34 +20,35 @@ enum-known-front c = search needs
 enum-told : tie.Need-enum-told
 enum-told c = search needs
 
-returns : tie.Need-returns
-returns c = no-front (now (c .before .before .before .before .args .shelf)) (sym (c .before .before .front .ensures) ∙ c .enum-told .given .1)
+returns-2 : tie.Need-returns-2
+returns-2 c = no-front (now (c .before .before .before .before .before .args .shelf)) (sym (c .before .before .front .ensures) ∙ c .enum-told .given .1)
 
 block-length-requires : tie.Need-block-length-requires
 block-length-requires c κs = search needs
 
-returns-2 : tie.Need-returns-2
-returns-2 c = let s = now (c .before .before .before .before .before .before .before .args .shelf) in no-length s (sym (c .before .before .before .before .before .front .ensures) ∙ c .before .before .before .front2 .given .1) (ne-eqb (length s) _ (λ e. c .if1 .taken (e ∙ sym (c .before .block-length .ensures))))
+returns-3 : tie.Need-returns-3
+returns-3 c = let s = now (c .before .before .before .before .before .before .before .before .args .shelf) in no-length s (sym (c .before .before .before .before .before .front .ensures) ∙ c .before .before .before .front2 .given .1) (ne-eqb (length s) _ (λ e. c .if2 .taken (e ∙ sym (c .before .block-length .ensures))))
 
 elements-formed-requires : tie.Need-elements-formed-requires
 elements-formed-requires c κs = search needs
 
-returns-3 : tie.Need-returns-3
-returns-3 c = let s = now (c .before .before .before .before .before .before .before .before .before .args .shelf) in all-passed s (sym (c .before .before .before .before .before .before .before .front .ensures) ∙ c .before .before .before .before .before .front2 .given .1) (eq-eqb (length s) _ (c .before .before .if1 .left ∙ c .before .before .before .block-length .ensures)) (sym (c .before .elements-formed .ensures) ∙ c .if2 .taken)
-
 returns-4 : tie.Need-returns-4
-returns-4 c = let s = now (c .before .before .before .before .before .before .before .before .before .args .shelf) in no-elements s (sym (c .before .before .before .before .before .before .before .front .ensures) ∙ c .before .before .before .before .before .front2 .given .1) (sym (c .before .elements-formed .ensures) ∙ c .if2 .left)
+returns-4 c = let s = now (c .before .before .before .before .before .before .before .before .before .before .args .shelf) in all-passed s (sym (c .before .before .before .before .before .before .before .front .ensures) ∙ c .before .before .before .before .before .front2 .given .1) (eq-eqb (length s) _ (c .before .before .if2 .left ∙ c .before .before .before .block-length .ensures)) (sym (c .before .elements-formed .ensures) ∙ c .if3 .taken)
+
+returns-5 : tie.Need-returns-5
+returns-5 c = let s = now (c .before .before .before .before .before .before .before .before .before .before .args .shelf) in no-elements s (sym (c .before .before .before .before .before .before .before .front .ensures) ∙ c .before .before .before .before .before .front2 .given .1) (sym (c .before .elements-formed .ensures) ∙ c .if3 .left)
 
 pub open-shelf-spec : {M : Type 1} → statement M
 open-shelf-spec =
     tie.close
     (tie.spec
+    returns
     front-requires
     enum-known-front
     enum-told
-    returns
-    block-length-requires
     returns-2
-    elements-formed-requires
+    block-length-requires
     returns-3
-    returns-4)
+    elements-formed-requires
+    returns-4
+    returns-5)

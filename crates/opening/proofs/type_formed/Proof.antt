@@ -1,6 +1,7 @@
 -- `opening::type_formed` meets its contract. Assumes nothing.
-use Rattle.opening.specs.Formed.{typeFormed}
+use denote.Ref.{now}
 use borrow.Author.Needs.{needs}
+use Rattle.opening.proofs.Judged.{text-read, text-too-long, type-judged}
 use Rattle.opening.proofs.type_formed.Statement.{statement}
 use Rattle.opening.proofs.type_formed.Tie as tie
 
@@ -9,6 +10,15 @@ type-place-requires c κs = search needs
 
 four-at-requires : tie.Need-four-at-requires
 four-at-requires c κs = search needs
+
+array-read-n : tie.Need-array-read-n
+array-read-n c = search needs
+
+cast-n : tie.Need-cast-n
+cast-n c = search needs
+
+returns : tie.Need-returns
+returns c = let s = c .before .before .before .before .args in text-too-long (now (s .shelf)) (s .t) (text-read (now (s .shelf)) (s .t) (c .before .before .type-place .ensures) (c .before .four-at .ensures)) (c .if1 .taken)
 
 array-read-is-served : tie.Need-array-read-is-served
 array-read-is-served c = search needs
@@ -22,18 +32,11 @@ array-read-result c = search needs
 array-read-result-2 : tie.Need-array-read-result-2
 array-read-result-2 c = search needs
 
-cast-result : tie.Need-cast-result
-cast-result c = search needs
-
-array-read-result-3 : tie.Need-array-read-result-3
-array-read-result-3 c = search needs
-
 text-formed-requires : tie.Need-text-formed-requires
-text-formed-requires c κs = search needs
+text-formed-requires c κs = let q = c .before .before .before .before .before in (q .pre, (c .before .if1 .left, text-read (now (q .args .shelf)) (q .args .t) (c .before .before .before .type-place .ensures) (c .before .before .four-at .ensures)))
 
-returns : tie.Need-returns
-unfolding typeFormed
-returns c = rw (c .before .is-served .ensures, c .before .before .four-at .ensures, c .before .before .before .type-place .ensures, c .text-formed .ensures)
+returns-2 : tie.Need-returns-2
+returns-2 c = let s = c .before .before .before .before .before .before .args in let p = c .before .before .before .before .type-place .ensures in let h = c .before .before .before .four-at .ensures in type-judged (now (s .shelf)) (s .t) (text-read (now (s .shelf)) (s .t) p h) (c .before .before .if1 .left) p h (c .before .is-served .ensures) (c .text-formed .ensures)
 
 pub type-formed-spec : {M : Type 1} → statement M
 type-formed-spec =
@@ -41,11 +44,12 @@ type-formed-spec =
     (tie.spec
     type-place-requires
     four-at-requires
+    array-read-n
+    cast-n
+    returns
     array-read-is-served
     is-served-requires
     array-read-result
     array-read-result-2
-    cast-result
-    array-read-result-3
     text-formed-requires
-    returns)
+    returns-2)

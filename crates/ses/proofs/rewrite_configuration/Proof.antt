@@ -2,6 +2,7 @@
 use mathlib.Core.Path.{refl, sym, _∙_}
 use denote.Ref.{now}
 use Rattle.opening.proofs.Stages.{configuration-sizes, not-configuration}
+use Rattle.pages.proofs.Bounds.{configuration-there}
 use Rattle.configuration.specs.Page.{configurationPage}
 use Rattle.ses.proofs.AsC.{configuration-refused, configuration-taken}
 use borrow.Author.Needs.{needs}
@@ -21,7 +22,7 @@ returns : tie.Need-returns
 returns c = let s = now (c .before .before .before .before .before .args .configuration) in (configuration-refused s (configurationPage s) (now (c .before .before .before .before .before .args .out)) (not-configuration s (sym (c .before .before .open-configuration .ensures) ∙ c .enum-told2 .given .1)), refl)
 
 write-requires : tie.Need-write-requires
-write-requires c κs = search needs
+write-requires c κs = let s = now (c .before .before .before .before .before .before .args .configuration) in configuration-there s (configuration-sizes s (sym (c .before .before .before .open-configuration .ensures) ∙ c .before .enum-told .given .1) .0)
 
 same-length : tie.Need-same-length
 same-length c = search needs

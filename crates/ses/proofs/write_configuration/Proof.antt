@@ -2,6 +2,7 @@
 use mathlib.Core.Path.{refl, sym, _∙_}
 use denote.Ref.{now}
 use Rattle.opening.proofs.Stages.{formed-sizes, not-formed}
+use Rattle.pages.proofs.Bounds.{shelf-there}
 use Rattle.configuration.specs.Page.{configurationPage}
 use Rattle.ses.proofs.AsC.{shelf-refused, shelf-taken}
 use borrow.Author.Needs.{needs}
@@ -21,7 +22,7 @@ returns : tie.Need-returns
 returns c = let s = now (c .before .before .before .before .before .args .shelf) in (shelf-refused s (configurationPage s) (now (c .before .before .before .before .before .args .out)) (not-formed s (sym (c .before .before .open-shelf .ensures) ∙ c .enum-told2 .given .1)), refl)
 
 write-requires : tie.Need-write-requires
-write-requires c κs = search needs
+write-requires c κs = let s = now (c .before .before .before .before .before .before .args .shelf) in shelf-there s (formed-sizes s (sym (c .before .before .before .open-shelf .ensures) ∙ c .before .enum-told .given .1) .0)
 
 same-length : tie.Need-same-length
 same-length c = search needs

@@ -1,26 +1,31 @@
 -- `showing::show_elements` is safe and ends.
-use Prim.Native.Nat.{_-_}
+use mathlib.Core.Path.{_≡_}
+use Prim.Native.Nat.{_-_, _≤_}
 use native.Mathlib.Omega.{arith}
+use denote.Ref.{now}
+use borrow.Author.Needs.{needs}
+use Rattle.shelf.specs.Types.{carried}
+use Rattle.shelf.proofs.Runs.{run-on}
 use Rattle.showing.proofs.show_elements.Statement.{statement}
 use Rattle.showing.proofs.show_elements.Tie as tie
 
 abbrev Inv-loop : tie.InvT-loop
-Inv-loop shelf t n j₀ j = Unit {0}
+Inv-loop shelf t n run₀ j₀ run j = (j ≤ n) × (run ≡ carried shelf j)
 
 abbrev μ-loop : tie.MeasureT-loop
-μ-loop shelf t n j₀ j = n - j
+μ-loop shelf t n run₀ j₀ run j = n - j
 
-all-elements-requires : tie.Need-all-elements-requires Inv-loop μ-loop
-all-elements-requires c κs = tt
+first-run-requires : tie.Need-first-run-requires Inv-loop μ-loop
+first-run-requires c κs = search needs
 
 loop-holds : tie.Need-loop-holds Inv-loop μ-loop
-loop-holds c = tt
+loop-holds c = (omega arith, c .first-run .ensures)
 
-type-of-requires : tie.Need-type-of-requires Inv-loop μ-loop
-type-of-requires c κs = tt
+run-to-requires : tie.Need-run-to-requires Inv-loop μ-loop
+run-to-requires c κs = (omega (arith, c .before .before .before .before .pre, c .loop-test .taken), c .before .loop .inv .1)
 
 show-requires : tie.Need-show-requires Inv-loop μ-loop
-show-requires c κs = tt
+show-requires c κs = omega (arith, c .before .before .before .before .before .before .before .pre, c .before .before .before .loop-test .taken)
 
 add-j : tie.Need-add-j Inv-loop μ-loop
 add-j c = omega arith
@@ -29,10 +34,10 @@ loop-less : tie.Need-loop-less Inv-loop μ-loop
 loop-less c = omega arith
 
 loop-again : tie.Need-loop-again Inv-loop μ-loop
-loop-again c = tt
+loop-again c = (omega arith, run-on (now (c .before .before .before .before .before .before .before .args .shelf)) (c .before .before .before .before .loop .j) (c .before .before .run-to .ensures))
 
 returns : tie.Need-returns Inv-loop μ-loop
-returns c = tt
+returns c = search needs
 
 pub show-elements-spec : {M : Type 1} → statement M
 show-elements-spec =
@@ -40,9 +45,9 @@ show-elements-spec =
     (tie.spec
     Inv-loop
     μ-loop
-    all-elements-requires
+    first-run-requires
     loop-holds
-    type-of-requires
+    run-to-requires
     show-requires
     add-j
     loop-less

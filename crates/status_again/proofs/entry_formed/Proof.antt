@@ -5,9 +5,6 @@ use borrow.Author.Needs.{needs}
 use Rattle.status_again.proofs.entry_formed.Statement.{statement}
 use Rattle.status_again.proofs.entry_formed.Tie as tie
 
-slot-at-requires : tie.Need-slot-at-requires
-slot-at-requires c κs = search needs
-
 flags-formed-requires : tie.Need-flags-formed-requires
 flags-formed-requires c κs = search needs
 
@@ -21,16 +18,15 @@ is-showable-requires : tie.Need-is-showable-requires
 is-showable-requires c κs = search needs
 
 returns : tie.Need-returns
-returns c = let s = c .before .before .before .before .before .before .before .args in formed-overall (now (s .configuration)) (now (s .fields)) (s .i) (c .before .before .before .before .slot-at .ensures) (c .before .before .before .flags-formed .ensures) (c .before .before .entry-at .ensures) (c .before .if1 .taken) (c .is-code-alone .ensures)
+returns c = let s = c .before .before .before .before .before .args in formed-overall (now (s .fields)) (s .i) (s .at) (c .before .before .before .flags-formed .ensures) (c .before .before .entry-at .ensures) (c .before .if1 .taken) (c .is-code-alone .ensures)
 
 returns-2 : tie.Need-returns-2
-returns-2 c = let s = c .before .before .before .before .before .before .before .args in formed-element (now (s .configuration)) (now (s .fields)) (s .i) (c .before .before .before .before .slot-at .ensures) (c .before .before .before .flags-formed .ensures) (c .before .before .entry-at .ensures) (c .before .if1 .left) (c .is-showable .ensures)
+returns-2 c = let s = c .before .before .before .before .before .args in formed-element (now (s .fields)) (s .i) (s .at) (c .before .before .before .flags-formed .ensures) (c .before .before .entry-at .ensures) (c .before .if1 .left) (c .is-showable .ensures)
 
 pub entry-formed-spec : {M : Type 1} → statement M
 entry-formed-spec =
     tie.close
     (tie.spec
-    slot-at-requires
     flags-formed-requires
     entry-at-requires
     is-code-alone-requires

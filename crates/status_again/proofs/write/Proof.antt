@@ -2,12 +2,14 @@
 use mathlib.Core.Path.{refl, sym, ap, _∙_}
 use native.Mathlib.Omega.{arith}
 use denote.Ref.{now}
+use lib.ListN.{length}
 use borrow.Author.Tests.{eq-eqb, ne-eqb, not-true, not-false}
 use Rattle.opening.proofs.Stages.{configuration-sizes, not-configuration}
-use Rattle.pages.proofs.Bounds.{configuration-front}
+use Rattle.pages.proofs.Bounds.{configuration-front, configuration-there, slots-bound}
+use Rattle.pages.proofs.Headed.{head-length}
 use Rattle.opening.proofs.Parts.{few-types, few-elements}
 use Rattle.pages.proofs.Counted.{slots-are}
-use Rattle.pages.proofs.Fitted.{out-kept}
+use Rattle.pages.proofs.Fitted.{page-room, out-kept}
 use Rattle.shows.specs.Shows.{bitsByte}
 use Rattle.status_record.specs.Entries.{entryAt, bitsAt}
 use Rattle.status_again.specs.Again.{pageAgain}
@@ -45,7 +47,7 @@ returns-3 : tie.Need-returns-3
 returns-3 c = let s = now (c .before .before .before .before .before .before .before .before .before .before .before .before .before .args .configuration) in let z = configuration-sizes s (sym (c .before .before .before .before .before .before .before .before .before .before .open-configuration .ensures) ∙ c .before .before .before .before .before .before .before .before .opened .given .1) in let r = now (c .before .before .before .before .before .before .before .before .before .before .before .before .before .args .fields) in let o = now (c .before .before .before .before .before .before .before .before .before .before .before .before .before .args .out) in let e = slots-are s (z .1) (z .2) in (other-bits s r o (z .0) e (eq-eqb _ _ (sym (c .before .before .before .before .count .ensures) ∙ c .before .before .before .if1 .left)) (sym (c .before .bits-formed .ensures) ∙ not-true _ (c .if2 .taken)), refl)
 
 entries-formed-requires : tie.Need-entries-formed-requires
-entries-formed-requires c κs = search needs
+entries-formed-requires c κs = let q = c .before .before .before .before .before .before .before .before .before .before .before .before .before .before in let s = now (q .args .configuration) in let z = configuration-sizes s (sym (c .before .before .before .before .before .before .before .before .before .before .before .open-configuration .ensures) ∙ c .before .before .before .before .before .before .before .before .before .opened .given .1) in let e = slots-are s (z .1) (z .2) in let b = slots-bound s (configuration-front s (z .0)) in (configuration-there s (z .0), (omega (arith, e), omega (arith, e, b)))
 
 returns-4 : tie.Need-returns-4
 returns-4 c = let s = now (c .before .before .before .before .before .before .before .before .before .before .before .before .before .before .before .before .args .configuration) in let z = configuration-sizes s (sym (c .before .before .before .before .before .before .before .before .before .before .before .before .before .open-configuration .ensures) ∙ c .before .before .before .before .before .before .before .before .before .before .before .opened .given .1) in let r = now (c .before .before .before .before .before .before .before .before .before .before .before .before .before .before .before .before .args .fields) in let o = now (c .before .before .before .before .before .before .before .before .before .before .before .before .before .before .before .before .args .out) in let e = slots-are s (z .1) (z .2) in (other-fields s r o (z .0) e (eq-eqb _ _ (sym (c .before .before .before .before .before .before .before .count .ensures) ∙ c .before .before .before .before .before .before .if1 .left)) (sym (c .before .before .before .before .bits-formed .ensures) ∙ not-false _ (c .before .before .before .if2 .left)) (sym (c .before .entries-formed .ensures) ∙ not-true _ (c .if3 .taken)), refl)
@@ -73,10 +75,10 @@ byte-requires : tie.Need-byte-requires
 byte-requires c κs = search needs
 
 put-requires : tie.Need-put-requires
-put-requires c κs = search needs
+put-requires c κs = let q = c .before .before .before .before .before .before .before .before .before .before .before .before .before .before .before .before .before .before .before .before .before .before .before .before in let s = now (q .args .configuration) in let z = configuration-sizes s (sym (c .before .before .before .before .before .before .before .before .before .before .before .before .before .before .before .before .before .before .before .before .before .open-configuration .ensures) ∙ c .before .before .before .before .before .before .before .before .before .before .before .before .before .before .before .before .before .before .before .opened .given .1) in let r = page-room _ _ (length (now (q .args .out))) (c .before .before .before .before .before .before .before .slot-place .ensures) (c .before .before .before .before .before .before .fit .ensures) (c .before .before .before .before .enum-told2 .given .1) in (configuration-there s (z .0) .1, omega (arith, r))
 
 put-slots-requires : tie.Need-put-slots-requires
-put-slots-requires c κs = search needs
+put-slots-requires c κs = let q = c .before .before .before .before .before .before .before .before .before .before .before .before .before .before .before .before .before .before .before .before .before .before .before .before .before .before .before .before .before in let s = now (q .args .configuration) in let z = configuration-sizes s (sym (c .before .before .before .before .before .before .before .before .before .before .before .before .before .before .before .before .before .before .before .before .before .before .before .before .before .before .open-configuration .ensures) ∙ c .before .before .before .before .before .before .before .before .before .before .before .before .before .before .before .before .before .before .before .before .before .before .before .before .opened .given .1) in let e = slots-are s (z .1) (z .2) in let b = slots-bound s (configuration-front s (z .0)) in let r = page-room _ _ (length (now (q .args .out))) (c .before .before .before .before .before .before .before .before .before .before .before .before .slot-place .ensures) (c .before .before .before .before .before .before .before .before .before .before .before .fit .ensures) (c .before .before .before .before .before .before .before .before .before .enum-told2 .given .1) in (configuration-there s (z .0), (omega (arith, e), (omega (arith, e, b), omega (arith, r, head-length s (now (q .args .out)) 2 _ _ (c .before .before .before .before .put .ensures)))))
 
 same-length : tie.Need-same-length
 same-length c = search needs

@@ -1,6 +1,6 @@
 -- `threshold_out::apply` meets its contract. Assumes nothing.
 use denote.Ref.{now}
-use Rattle.threshold_out.proofs.Acted.{refused-after, accepted-after}
+use Rattle.threshold_out.proofs.Acted.{accepted-room, refused-after, accepted-after}
 use borrow.Author.Needs.{needs}
 use Rattle.threshold_out.proofs.apply.Statement.{statement}
 use Rattle.threshold_out.proofs.apply.Tie as tie
@@ -21,7 +21,7 @@ returns : tie.Need-returns
 returns c = let s = c .before .before .before .before .before .before .args in (c .before .before .test .ensures, refused-after (now (s .shelf)) (now (s .page)) (c .before .before .test .ensures) (c .enum-told2 .given .1))
 
 act-requires : tie.Need-act-requires
-act-requires c κs = search needs
+act-requires c κs = let s = c .before .before .before .before .before .before .before .args in accepted-room (now (s .shelf)) (now (s .page)) (c .before .before .before .test .ensures) (c .before .enum-told .given .1)
 
 same-length-2 : tie.Need-same-length-2
 same-length-2 c = search needs

@@ -1,32 +1,44 @@
 -- `threshold_rows::all_had` meets its contract. Assumes nothing.
 use mathlib.Core.Path.{_≡_, refl, sym, _∙_}
+use mathlib.Core.Bool.{true}
 use Prim.Native.Nat.{_-_, _≤_}
 use native.Mathlib.Omega.{arith}
 use denote.Ref.{now}
 use borrow.Author.Needs.{needs}
-use mathlib.Core.Bool.{true}
 use borrow.Author.Tests.{not-true, not-false}
 use Rattle.bits.specs.Choice.{allBelow}
 use Rattle.bits.proofs.Logic.{below-fails, below-next}
+use Rattle.pages.specs.Slots.{slotCarried}
+use Rattle.pages.proofs.Walked.{walk-on}
+use Rattle.threshold_rows.proofs.Turned.{row-had}
 use Rattle.threshold_rows.specs.Rows.{rowHad, allHad}
 use Rattle.threshold_rows.proofs.all_had.Statement.{statement}
 use Rattle.threshold_rows.proofs.all_had.Tie as tie
 
 abbrev Inv-loop : tie.InvT-loop
-Inv-loop configuration block start n i₀ i = (i ≤ n) × (allBelow (rowHad configuration block start) i ≡ true)
+Inv-loop configuration block start n run₀ i₀ run i = (i ≤ n) × (run ≡ slotCarried configuration i) × (allBelow (rowHad configuration block start) i ≡ true)
 
 abbrev μ-loop : tie.MeasureT-loop
-μ-loop configuration block start n i₀ i = n - i
+μ-loop configuration block start n run₀ i₀ run i = n - i
+
+first-run-requires : tie.Need-first-run-requires Inv-loop μ-loop
+first-run-requires c κs = search needs
 
 loop-holds : tie.Need-loop-holds Inv-loop μ-loop
-loop-holds c = (omega arith, refl)
+loop-holds c = (omega arith, c .first-run .ensures, refl)
 
-row-had-requires : tie.Need-row-had-requires Inv-loop μ-loop
-row-had-requires c κs = search needs
+run-to-requires : tie.Need-run-to-requires Inv-loop μ-loop
+run-to-requires c κs = let q = c .before .before .before .before .before in (q .pre .0, (omega (arith, q .pre .1, c .loop-test .taken), c .before .loop .inv .1))
+
+row-at-requires : tie.Need-row-at-requires Inv-loop μ-loop
+row-at-requires c κs = search needs
+
+are-had-requires : tie.Need-are-had-requires Inv-loop μ-loop
+are-had-requires c κs = search needs
 
 returns : tie.Need-returns Inv-loop μ-loop
 unfolding allHad
-returns c = let s = c .before .before .before .before .before .before .args in sym (below-fails (rowHad (now (s .configuration)) (now (s .block)) (s .start)) (s .n) (c .before .before .before .loop .i) (c .before .before .loop-test .taken) (sym (c .before .row-had .ensures) ∙ not-true _ (c .if1 .taken)))
+returns c = let s = c .before .before .before .before .before .before .before .before .before .args in let l = c .before .before .before .before .before .loop in let h = row-had (now (s .configuration)) (now (s .block)) (s .start) (l .i) (c .before .before .before .run-to .ensures) (c .before .before .row-at .ensures) (c .before .are-had .ensures) in sym (below-fails (rowHad (now (s .configuration)) (now (s .block)) (s .start)) (s .n) (l .i) (c .before .before .before .before .loop-test .taken) (sym h ∙ not-true _ (c .if1 .taken)))
 
 add-i : tie.Need-add-i Inv-loop μ-loop
 add-i c = omega arith
@@ -35,11 +47,11 @@ loop-less : tie.Need-loop-less Inv-loop μ-loop
 loop-less c = omega arith
 
 loop-again : tie.Need-loop-again Inv-loop μ-loop
-loop-again c = let s = c .before .before .before .before .before .before .args in let l = c .before .before .before .loop in (omega arith, below-next (rowHad (now (s .configuration)) (now (s .block)) (s .start)) (l .i) (l .inv .1) (sym (c .before .row-had .ensures) ∙ not-false _ (c .if1 .left)))
+loop-again c = let s = c .before .before .before .before .before .before .before .before .before .args in let l = c .before .before .before .before .before .loop in let r = c .before .before .before .run-to .ensures in let h = row-had (now (s .configuration)) (now (s .block)) (s .start) (l .i) r (c .before .before .row-at .ensures) (c .before .are-had .ensures) in (omega arith, walk-on (now (s .configuration)) (l .i) r, below-next (rowHad (now (s .configuration)) (now (s .block)) (s .start)) (l .i) (l .inv .2) (sym h ∙ not-false _ (c .if1 .left)))
 
 returns-2 : tie.Need-returns-2 Inv-loop μ-loop
 unfolding allHad
-returns-2 c = let s = c .before .before .before .before .args in let l = c .before .loop in let e : l .i ≡ s .n = omega arith in sym (rw e at (l .inv .1))
+returns-2 c = let l = c .before .loop in let e : l .i ≡ c .before .before .before .before .before .args .n = omega arith in sym (rw e at (l .inv .2))
 
 pub all-had-spec : {M : Type 1} → statement M
 all-had-spec =
@@ -47,8 +59,11 @@ all-had-spec =
     (tie.spec
     Inv-loop
     μ-loop
+    first-run-requires
     loop-holds
-    row-had-requires
+    run-to-requires
+    row-at-requires
+    are-had-requires
     returns
     add-i
     loop-less

@@ -1,45 +1,86 @@
 -- `threshold_rows::test` meets its contract. Assumes nothing.
-use mathlib.Core.Path.{sym, _∙_}
+use mathlib.Core.Path.{_≡_, refl, ap}
+use mathlib.Core.Bool.{true, not}
+use Prim.Native.Nat.{_-_, _≤_}
+use native.Mathlib.Omega.{arith}
 use denote.Ref.{now}
-use borrow.Author.Tests.{eq-eqb, ne-eqb, not-true, not-false}
-use Rattle.threshold_rows.proofs.Asked.{refused-byte, not-had, not-ordered, rows-passed}
 use borrow.Author.Needs.{needs}
+use borrow.Author.Tests.{le-ltb, not-true, not-false}
+use Rattle.bits.specs.Choice.{allBelow, refusedIn}
+use Rattle.bits.proofs.Logic.{fails, below-next}
+use Rattle.pages.specs.Slots.{slotCarried}
+use Rattle.pages.proofs.Walked.{walk-on}
+use Rattle.threshold_rows.specs.Rows.{rowOffending, rowHad, rowOrdered}
+use Rattle.threshold_rows.proofs.Turned.{row-offends, row-had, row-ordered, and-next}
+use Rattle.threshold_rows.proofs.Asked.{refused-row, not-had, not-ordered, rows-passed}
 use Rattle.threshold_rows.proofs.test.Statement.{statement}
 use Rattle.threshold_rows.proofs.test.Tie as tie
 
-first-offence-requires : tie.Need-first-offence-requires
-first-offence-requires c κs = search needs
+abbrev Inv-loop : tie.InvT-loop
+Inv-loop configuration block start n had₀ ordered₀ run₀ i₀ had ordered run i = (i ≤ n) × (run ≡ slotCarried configuration i) × (allBelow (fails (refusedIn (rowOffending configuration block start))) i ≡ true) × (had ≡ allBelow (rowHad configuration block start) i) × (ordered ≡ allBelow (rowOrdered configuration block start) i)
 
-row-place-requires : tie.Need-row-place-requires
-row-place-requires c κs = search needs
+abbrev μ-loop : tie.MeasureT-loop
+μ-loop configuration block start n had₀ ordered₀ run₀ i₀ had ordered run i = n - i
 
-returns : tie.Need-returns
-returns c = let s = c .before .before .before .before .before .args in refused-byte (now (s .configuration)) (now (s .block)) (s .start) (s .n) (c .before .before .first-offence .ensures) (c .before .row-place .ensures) (ne-eqb _ _ (c .if1 .taken))
+first-run-requires : tie.Need-first-run-requires Inv-loop μ-loop
+first-run-requires c κs = search needs
 
-all-had-requires : tie.Need-all-had-requires
-all-had-requires c κs = search needs
+loop-holds : tie.Need-loop-holds Inv-loop μ-loop
+loop-holds c = (omega arith, c .first-run .ensures, refl, refl, refl)
 
-returns-2 : tie.Need-returns-2
-returns-2 c = let s = c .before .before .before .before .before .before .before .args in not-had (now (s .configuration)) (now (s .block)) (s .start) (s .n) (c .before .before .before .before .first-offence .ensures) (c .before .before .before .row-place .ensures) (eq-eqb _ _ (c .before .before .if1 .left)) (sym (c .before .all-had .ensures) ∙ not-true _ (c .if2 .taken))
+run-to-requires : tie.Need-run-to-requires Inv-loop μ-loop
+run-to-requires c κs = let q = c .before .before .before .before .before in (q .pre .0, (omega (arith, q .pre .1, c .loop-test .taken), c .before .loop .inv .1))
 
-all-ordered-requires : tie.Need-all-ordered-requires
-all-ordered-requires c κs = search needs
+row-at-requires : tie.Need-row-at-requires Inv-loop μ-loop
+row-at-requires c κs = search needs
 
-returns-3 : tie.Need-returns-3
-returns-3 c = let s = c .before .before .before .before .before .before .before .before .before .args in not-ordered (now (s .configuration)) (now (s .block)) (s .start) (s .n) (c .before .before .before .before .before .before .first-offence .ensures) (c .before .before .before .before .before .row-place .ensures) (eq-eqb _ _ (c .before .before .before .before .if1 .left)) (sym (c .before .before .before .all-had .ensures) ∙ not-false _ (c .before .before .if2 .left)) (sym (c .before .all-ordered .ensures) ∙ not-true _ (c .if3 .taken))
+row-offending-requires : tie.Need-row-offending-requires Inv-loop μ-loop
+row-offending-requires c κs = search needs
 
-returns-4 : tie.Need-returns-4
-returns-4 c = let s = c .before .before .before .before .before .before .before .before .before .args in rows-passed (now (s .configuration)) (now (s .block)) (s .start) (s .n) (c .before .before .before .before .before .before .first-offence .ensures) (c .before .before .before .before .before .row-place .ensures) (eq-eqb _ _ (c .before .before .before .before .if1 .left)) (sym (c .before .before .before .all-had .ensures) ∙ not-false _ (c .before .before .if2 .left)) (sym (c .before .all-ordered .ensures) ∙ not-false _ (c .if3 .left))
+returns : tie.Need-returns Inv-loop μ-loop
+returns c = let s = c .before .before .before .before .before .before .before .before .before .args in let l = c .before .before .before .before .before .loop in let h = row-offends (now (s .configuration)) (now (s .block)) (s .start) (l .i) (c .before .before .before .run-to .ensures) (c .before .before .row-at .ensures) (c .before .row-offending .ensures) in refused-row (now (s .configuration)) (now (s .block)) (s .start) (s .n) (l .i) (c .before .before .before .before .loop-test .taken) (l .inv .2) h (c .if1 .taken)
+
+are-had-requires : tie.Need-are-had-requires Inv-loop μ-loop
+are-had-requires c κs = search needs
+
+are-ordered-requires : tie.Need-are-ordered-requires Inv-loop μ-loop
+are-ordered-requires c κs = search needs
+
+add-i : tie.Need-add-i Inv-loop μ-loop
+add-i c = omega arith
+
+loop-less : tie.Need-loop-less Inv-loop μ-loop
+loop-less c = omega arith
+
+loop-again : tie.Need-loop-again Inv-loop μ-loop
+loop-again c = let s = c .before .before .before .before .before .before .before .before .before .before .before .args in let x = now (s .configuration) in let b = now (s .block) in let l = c .before .before .before .before .before .before .before .loop in let r = c .before .before .before .before .before .run-to .ensures in let e = c .before .before .before .before .row-at .ensures in let k = row-offends x b (s .start) (l .i) r e (c .before .before .before .row-offending .ensures) in (omega arith, walk-on x (l .i) r, below-next (fails (refusedIn (rowOffending x b (s .start)))) (l .i) (l .inv .2) (ap not (le-ltb (rowOffending x b (s .start) (l .i)) 4 (rw k at (c .before .before .if1 .left)))), and-next (rowHad x b (s .start)) (l .i) (l .inv .3) (row-had x b (s .start) (l .i) r e (c .before .are-had .ensures)), and-next (rowOrdered x b (s .start)) (l .i) (l .inv .4) (row-ordered x b (s .start) (l .i) r e (c .are-ordered .ensures)))
+
+returns-2 : tie.Need-returns-2 Inv-loop μ-loop
+returns-2 c = let s = c .before .before .before .before .before .before .args in let l = c .before .before .loop in let e : l .i ≡ s .n = omega arith in not-had (now (s .configuration)) (now (s .block)) (s .start) (s .n) (rw e at (l .inv .2)) (rw e at (l .inv .3)) (rw e at (l .inv .4)) (not-true _ (c .if2 .taken))
+
+returns-3 : tie.Need-returns-3 Inv-loop μ-loop
+returns-3 c = let s = c .before .before .before .before .before .before .before .args in let l = c .before .before .before .loop in let e : l .i ≡ s .n = omega arith in not-ordered (now (s .configuration)) (now (s .block)) (s .start) (s .n) (rw e at (l .inv .2)) (rw e at (l .inv .3)) (rw e at (l .inv .4)) (not-false _ (c .before .if2 .left)) (not-true _ (c .if3 .taken))
+
+returns-4 : tie.Need-returns-4 Inv-loop μ-loop
+returns-4 c = let s = c .before .before .before .before .before .before .before .args in let l = c .before .before .before .loop in let e : l .i ≡ s .n = omega arith in rows-passed (now (s .configuration)) (now (s .block)) (s .start) (s .n) (rw e at (l .inv .2)) (rw e at (l .inv .3)) (rw e at (l .inv .4)) (not-false _ (c .before .if2 .left)) (not-false _ (c .if3 .left))
 
 pub test-spec : {M : Type 1} → statement M
 test-spec =
     tie.close
     (tie.spec
-    first-offence-requires
-    row-place-requires
+    Inv-loop
+    μ-loop
+    first-run-requires
+    loop-holds
+    run-to-requires
+    row-at-requires
+    row-offending-requires
     returns
-    all-had-requires
+    are-had-requires
+    are-ordered-requires
+    add-i
+    loop-less
+    loop-again
     returns-2
-    all-ordered-requires
     returns-3
     returns-4)

@@ -7,22 +7,27 @@ use borrow.Author.Needs.{needs}
 use mathlib.Core.Bool.{true}
 use Rattle.bits.specs.Choice.{allBelow}
 use borrow.Author.Tests.{not-true, not-false}
+use Rattle.shelf.specs.Types.{carried}
+use Rattle.shelf.proofs.Runs.{run-kind, run-on}
 use Rattle.builder.proofs.Turns.{formed-at, fails-at, passes-at, passes-all}
 use Rattle.builder.specs.Promise.{mayBe}
 use Rattle.builder.proofs.asked.may_be.Statement.{statement}
 use Rattle.builder.proofs.asked.may_be.Tie as tie
 
 abbrev Inv-loop : tie.InvT-loop
-Inv-loop shelf wanted n j₀ j = (j ≤ n) × (allBelow (mayBe shelf wanted) j ≡ true)
+Inv-loop shelf wanted n run₀ j₀ run j = (j ≤ n) × (run ≡ carried shelf j) × (allBelow (mayBe shelf wanted) j ≡ true)
 
 abbrev μ-loop : tie.MeasureT-loop
-μ-loop shelf wanted n j₀ j = n - j
+μ-loop shelf wanted n run₀ j₀ run j = n - j
+
+first-run-requires : tie.Need-first-run-requires Inv-loop μ-loop
+first-run-requires c κs = search needs
 
 loop-holds : tie.Need-loop-holds Inv-loop μ-loop
-loop-holds c = (omega arith, refl)
+loop-holds c = (omega arith, c .first-run .ensures, refl)
 
-kind-at-requires : tie.Need-kind-at-requires Inv-loop μ-loop
-kind-at-requires c κs = search needs
+run-to-requires : tie.Need-run-to-requires Inv-loop μ-loop
+run-to-requires c κs = (omega (arith, c .before .before .before .before .before .pre .0, c .loop-test .taken), c .before .loop .inv .1)
 
 wanted-at-requires : tie.Need-wanted-at-requires Inv-loop μ-loop
 wanted-at-requires c κs = search needs
@@ -31,7 +36,7 @@ are-formed-requires : tie.Need-are-formed-requires Inv-loop μ-loop
 are-formed-requires c κs = search needs
 
 returns : tie.Need-returns Inv-loop μ-loop
-returns c = let s = c .before .before .before .before .before .before .before .before .args in fails-at (mayBe (now (s .shelf)) (now (s .wanted))) (s .n) (c .before .before .before .before .before .loop .j) (formed-at (now (s .shelf)) (now (s .wanted)) (c .before .before .before .before .before .loop .j) (c .before .before .before .kind-at .ensures) (c .before .before .wanted-at .ensures) (c .before .are-formed .ensures)) (c .before .before .before .before .loop-test .taken) (not-true _ (c .if1 .taken))
+returns c = let s = c .before .before .before .before .before .before .before .before .before .args in fails-at (mayBe (now (s .shelf)) (now (s .wanted))) (s .n) (c .before .before .before .before .before .loop .j) (formed-at (now (s .shelf)) (now (s .wanted)) (c .before .before .before .before .before .loop .j) (run-kind (now (s .shelf)) (c .before .before .before .before .before .loop .j) (c .before .before .before .run-to .ensures)) (c .before .before .wanted-at .ensures) (c .before .are-formed .ensures)) (c .before .before .before .before .loop-test .taken) (not-true _ (c .if1 .taken))
 
 add-j : tie.Need-add-j Inv-loop μ-loop
 add-j c = omega arith
@@ -40,10 +45,10 @@ loop-less : tie.Need-loop-less Inv-loop μ-loop
 loop-less c = omega arith
 
 loop-again : tie.Need-loop-again Inv-loop μ-loop
-loop-again c = let s = c .before .before .before .before .before .before .before .before .args in (omega arith, passes-at (mayBe (now (s .shelf)) (now (s .wanted))) (s .n) (c .before .before .before .before .before .loop .j) (formed-at (now (s .shelf)) (now (s .wanted)) (c .before .before .before .before .before .loop .j) (c .before .before .before .kind-at .ensures) (c .before .before .wanted-at .ensures) (c .before .are-formed .ensures)) (c .before .before .before .before .before .loop .inv .1) (not-false _ (c .if1 .left)))
+loop-again c = let s = c .before .before .before .before .before .before .before .before .before .args in (omega arith, run-on (now (s .shelf)) (c .before .before .before .before .before .loop .j) (c .before .before .before .run-to .ensures), passes-at (mayBe (now (s .shelf)) (now (s .wanted))) (s .n) (c .before .before .before .before .before .loop .j) (formed-at (now (s .shelf)) (now (s .wanted)) (c .before .before .before .before .before .loop .j) (run-kind (now (s .shelf)) (c .before .before .before .before .before .loop .j) (c .before .before .before .run-to .ensures)) (c .before .before .wanted-at .ensures) (c .before .are-formed .ensures)) (c .before .before .before .before .before .loop .inv .2) (not-false _ (c .if1 .left)))
 
 returns-2 : tie.Need-returns-2 Inv-loop μ-loop
-returns-2 c = let s = c .before .before .before .before .args in passes-all (mayBe (now (s .shelf)) (now (s .wanted))) (s .n) (c .before .loop .j) (omega arith) (c .before .loop .inv .1)
+returns-2 c = let s = c .before .before .before .before .before .args in passes-all (mayBe (now (s .shelf)) (now (s .wanted))) (s .n) (c .before .loop .j) (omega arith) (c .before .loop .inv .2)
 
 pub may-be-spec : {M : Type 1} → statement M
 may-be-spec =
@@ -51,8 +56,9 @@ may-be-spec =
     (tie.spec
     Inv-loop
     μ-loop
+    first-run-requires
     loop-holds
-    kind-at-requires
+    run-to-requires
     wanted-at-requires
     are-formed-requires
     returns

@@ -7,22 +7,27 @@ use borrow.Author.Needs.{needs}
 use mathlib.Core.Bool.{true}
 use Rattle.bits.specs.Choice.{allBelow}
 use borrow.Author.Tests.{not-true, not-false}
+use Rattle.shelf.specs.Types.{carried}
+use Rattle.shelf.proofs.Runs.{run-kind, run-on}
 use Rattle.builder.proofs.Turns.{reach-at, fails-at, passes-at, passes-all}
 use Rattle.builder.specs.Page.{reachable}
 use Rattle.builder.proofs.asked.reach.Statement.{statement}
 use Rattle.builder.proofs.asked.reach.Tie as tie
 
 abbrev Inv-loop : tie.InvT-loop
-Inv-loop shelf wanted n j₀ j = (j ≤ n) × (allBelow (reachable shelf wanted) j ≡ true)
+Inv-loop shelf wanted n run₀ j₀ run j = (j ≤ n) × (run ≡ carried shelf j) × (allBelow (reachable shelf wanted) j ≡ true)
 
 abbrev μ-loop : tie.MeasureT-loop
-μ-loop shelf wanted n j₀ j = n - j
+μ-loop shelf wanted n run₀ j₀ run j = n - j
+
+first-run-requires : tie.Need-first-run-requires Inv-loop μ-loop
+first-run-requires c κs = search needs
 
 loop-holds : tie.Need-loop-holds Inv-loop μ-loop
-loop-holds c = (omega arith, refl)
+loop-holds c = (omega arith, c .first-run .ensures, refl)
 
-kind-at-requires : tie.Need-kind-at-requires Inv-loop μ-loop
-kind-at-requires c κs = search needs
+run-to-requires : tie.Need-run-to-requires Inv-loop μ-loop
+run-to-requires c κs = (omega (arith, c .before .before .before .before .before .pre .0, c .loop-test .taken), c .before .loop .inv .1)
 
 settings-at-requires : tie.Need-settings-at-requires Inv-loop μ-loop
 settings-at-requires c κs = search needs
@@ -34,7 +39,7 @@ in-reach-requires : tie.Need-in-reach-requires Inv-loop μ-loop
 in-reach-requires c κs = search needs
 
 returns : tie.Need-returns Inv-loop μ-loop
-returns c = let s = c .before .before .before .before .before .before .before .before .before .args in fails-at (reachable (now (s .shelf)) (now (s .wanted))) (s .n) (c .before .before .before .before .before .before .loop .j) (reach-at (now (s .shelf)) (now (s .wanted)) (c .before .before .before .before .before .before .loop .j) (c .before .before .before .before .kind-at .ensures) (c .before .before .before .settings-at .ensures) (c .before .before .wanted-at .ensures) (c .before .in-reach .ensures)) (c .before .before .before .before .before .loop-test .taken) (not-true _ (c .if1 .taken))
+returns c = let s = c .before .before .before .before .before .before .before .before .before .before .args in fails-at (reachable (now (s .shelf)) (now (s .wanted))) (s .n) (c .before .before .before .before .before .before .loop .j) (reach-at (now (s .shelf)) (now (s .wanted)) (c .before .before .before .before .before .before .loop .j) (run-kind (now (s .shelf)) (c .before .before .before .before .before .before .loop .j) (c .before .before .before .before .run-to .ensures)) (c .before .before .before .settings-at .ensures) (c .before .before .wanted-at .ensures) (c .before .in-reach .ensures)) (c .before .before .before .before .before .loop-test .taken) (not-true _ (c .if1 .taken))
 
 add-j : tie.Need-add-j Inv-loop μ-loop
 add-j c = omega arith
@@ -43,10 +48,10 @@ loop-less : tie.Need-loop-less Inv-loop μ-loop
 loop-less c = omega arith
 
 loop-again : tie.Need-loop-again Inv-loop μ-loop
-loop-again c = let s = c .before .before .before .before .before .before .before .before .before .args in (omega arith, passes-at (reachable (now (s .shelf)) (now (s .wanted))) (s .n) (c .before .before .before .before .before .before .loop .j) (reach-at (now (s .shelf)) (now (s .wanted)) (c .before .before .before .before .before .before .loop .j) (c .before .before .before .before .kind-at .ensures) (c .before .before .before .settings-at .ensures) (c .before .before .wanted-at .ensures) (c .before .in-reach .ensures)) (c .before .before .before .before .before .before .loop .inv .1) (not-false _ (c .if1 .left)))
+loop-again c = let s = c .before .before .before .before .before .before .before .before .before .before .args in (omega arith, run-on (now (s .shelf)) (c .before .before .before .before .before .before .loop .j) (c .before .before .before .before .run-to .ensures), passes-at (reachable (now (s .shelf)) (now (s .wanted))) (s .n) (c .before .before .before .before .before .before .loop .j) (reach-at (now (s .shelf)) (now (s .wanted)) (c .before .before .before .before .before .before .loop .j) (run-kind (now (s .shelf)) (c .before .before .before .before .before .before .loop .j) (c .before .before .before .before .run-to .ensures)) (c .before .before .before .settings-at .ensures) (c .before .before .wanted-at .ensures) (c .before .in-reach .ensures)) (c .before .before .before .before .before .before .loop .inv .2) (not-false _ (c .if1 .left)))
 
 returns-2 : tie.Need-returns-2 Inv-loop μ-loop
-returns-2 c = let s = c .before .before .before .before .args in passes-all (reachable (now (s .shelf)) (now (s .wanted))) (s .n) (c .before .loop .j) (omega arith) (c .before .loop .inv .1)
+returns-2 c = let s = c .before .before .before .before .before .args in passes-all (reachable (now (s .shelf)) (now (s .wanted))) (s .n) (c .before .loop .j) (omega arith) (c .before .loop .inv .2)
 
 pub reach-spec : {M : Type 1} → statement M
 reach-spec =
@@ -54,8 +59,9 @@ reach-spec =
     (tie.spec
     Inv-loop
     μ-loop
+    first-run-requires
     loop-holds
-    kind-at-requires
+    run-to-requires
     settings-at-requires
     wanted-at-requires
     in-reach-requires

@@ -1,6 +1,9 @@
 -- `builder::asked::wish` meets its contract. Assumes nothing.
 use denote.Ref.{now}
 use borrow.Author.Tests.{not-true, not-false}
+use native.Mathlib.Omega.{arith}
+use Rattle.opening.proofs.Stored.{length-formed}
+use Rattle.pages.proofs.Headed.{shelf-formed, shelf-has}
 use Rattle.builder.proofs.Stages.{shelf-refused, other-number, other-record, wish-taken}
 use borrow.Author.Needs.{needs}
 use Rattle.builder.proofs.asked.wish.Statement.{statement}
@@ -19,7 +22,7 @@ returns : tie.Need-returns
 returns c = let s = c .before .before .before .before .before .args in shelf-refused (now (s .shelf)) (now (s .wanted)) (c .before .before .shelf .ensures) (c .enum-told2 .given .1)
 
 all-elements-requires : tie.Need-all-elements-requires
-all-elements-requires c κs = search needs
+all-elements-requires c κs = shelf-has (now (c .before .before .before .before .before .args .shelf)) (c .before .before .shelf .ensures) (c .enum-told .given .1)
 
 cast-if1 : tie.Need-cast-if1
 cast-if1 c = search needs
@@ -31,7 +34,7 @@ returns-2 : tie.Need-returns-2
 returns-2 c = let s = c .before .before .before .before .before .before .before .args in other-number (now (s .shelf)) (now (s .wanted)) (c .before .before .before .before .shelf .ensures) (c .before .before .enum-told .given .1) (c .before .all-elements .ensures) (c .if1 .taken)
 
 may-be-requires : tie.Need-may-be-requires
-may-be-requires c κs = search needs
+may-be-requires c κs = let s = now (c .before .before .before .before .before .before .before .args .shelf) in let f = shelf-formed s (c .before .before .before .before .shelf .ensures) (c .before .before .enum-told .given .1) in (omega (arith, c .before .all-elements .ensures, length-formed s f), omega (arith, c .if1 .left))
 
 returns-3 : tie.Need-returns-3
 returns-3 c = let s = c .before .before .before .before .before .before .before .before .before .args in other-record (now (s .shelf)) (now (s .wanted)) (c .before .before .before .before .before .before .shelf .ensures) (c .before .before .before .before .enum-told .given .1) (c .before .before .before .all-elements .ensures) (c .before .before .if1 .left) (c .before .may-be .ensures) (not-true _ (c .if2 .taken))

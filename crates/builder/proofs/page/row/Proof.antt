@@ -1,6 +1,7 @@
 -- `builder::page::row` meets its contract. Assumes nothing.
 use denote.Ref.{now}
 use Rattle.builder.proofs.Turns.{row-overall, row-own}
+use native.Mathlib.Omega.{arith}
 use borrow.Author.Needs.{needs}
 use Rattle.builder.proofs.page.row.Statement.{statement}
 use Rattle.builder.proofs.page.row.Tie as tie
@@ -12,10 +13,10 @@ of-requires : tie.Need-of-requires
 of-requires c κs = search needs
 
 settings-at-requires : tie.Need-settings-at-requires
-settings-at-requires c κs = search needs
+settings-at-requires c κs = let q = c .before .before .before .before in omega (arith, q .pre .0 .0, q .pre .0 .1 (c .before .if1 .left))
 
 wanted-at-requires : tie.Need-wanted-at-requires
-wanted-at-requires c κs = search needs
+wanted-at-requires c κs = let q = c .before .before .before .before .before in omega (arith, q .pre .1, q .pre .0 .1 (c .before .before .if1 .left))
 
 one-requires : tie.Need-one-requires
 one-requires c κs = search needs

@@ -1,13 +1,16 @@
 -- `builder::page::write` meets its contract. Assumes nothing.
 use mathlib.Core.Path.{refl}
+use native.Mathlib.Omega.{arith}
 use denote.Ref.{now}
+use Rattle.pages.proofs.Bounds.{shelf-there}
+use Rattle.pages.proofs.Headed.{head-length}
 use Rattle.builder.proofs.Stages.{no-room, page-built, page-left}
 use borrow.Author.Needs.{needs}
 use Rattle.builder.proofs.page.write.Statement.{statement}
 use Rattle.builder.proofs.page.write.Tie as tie
 
 count-requires : tie.Need-count-requires
-count-requires c κs = search needs
+count-requires c κs = let q = c .before .before .before in shelf-there (now (q .args .shelf)) (q .pre .0) .1
 
 slot-place-requires : tie.Need-slot-place-requires
 slot-place-requires c κs = search needs
@@ -19,10 +22,10 @@ returns : tie.Need-returns
 returns c = let s = c .before .before .before .before .before .before .args in (no-room (now (s .shelf)) (now (s .wanted)) (now (s .out)) (c .before .before .count .ensures) (c .before .slot-place .ensures) (c .if1 .taken), refl)
 
 put-requires : tie.Need-put-requires
-put-requires c κs = search needs
+put-requires c κs = let q = c .before .before .before .before .before .before .before in (shelf-there (now (q .args .shelf)) (q .pre .0) .1, omega (arith, c .before .before .slot-place .ensures, c .before .if1 .left))
 
 put-slots-requires : tie.Need-put-slots-requires
-put-slots-requires c κs = search needs
+put-slots-requires c κs = let q = c .before .before .before .before .before .before .before .before .before .before .before in let s = now (q .args .shelf) in ((q .pre .0, omega (arith, c .before .before .before .before .before .before .before .count .ensures, c .before .before .before .before .before .before .slot-place .ensures, c .before .before .before .before .before .if1 .left, head-length s (now (q .args .out)) 2 0 _ (c .before .before .before .put .ensures))), (c .before .before .before .before .before .before .before .count .ensures, q .pre .1))
 
 same-length : tie.Need-same-length
 same-length c = search needs

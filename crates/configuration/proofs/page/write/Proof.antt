@@ -1,7 +1,8 @@
 -- `configuration::page::write` meets its contract. Assumes nothing.
 use denote.Ref.{now}
-use lib.ListN.{length}
-use Rattle.configuration.proofs.Fitted.{wrote, not-wrote, not-empty}
+use native.Mathlib.Omega.{arith}
+use Rattle.opening.proofs.Parts.{few-types}
+use Rattle.configuration.proofs.Fitted.{has-room, has-headers, wrote, not-wrote, not-empty}
 use borrow.Author.Needs.{needs}
 use Rattle.configuration.proofs.page.write.Statement.{statement}
 use Rattle.configuration.proofs.page.write.Tie as tie
@@ -28,13 +29,13 @@ sub-put-fixed : tie.Need-sub-put-fixed
 sub-put-fixed c = not-empty (now (c .before .before .before .before .before .before .before .args .front)) (c .before .before .before .before .length .ensures)
 
 put-fixed-requires : tie.Need-put-fixed-requires
-put-fixed-requires c κs = search needs
+put-fixed-requires c κs = let s = c .before .before .before .before .before .before .before .before in let h = has-headers (now (s .args .front)) (now (s .args .out)) (c .before .before .before .before .before .length .ensures) (c .before .before .before .before .fit .ensures) (c .before .before .enum-told .given .1) in (s .pre .1, omega (arith, h))
 
 put-headers-requires : tie.Need-put-headers-requires
-put-headers-requires c κs = search needs
+put-headers-requires c κs = let s = c .before .before .before .before .before .before .before .before .before .before .before .before in let f = now (s .args .front) in let n = c .before .before .before .before .before .count .ensures in let h = has-headers f (now (s .args .out)) (c .before .before .before .before .before .before .before .before .before .length .ensures) (c .before .before .before .before .before .before .before .before .fit .ensures) (c .before .before .before .before .before .before .enum-told .given .1) in (s .pre .1, (omega (arith, n, few-types f (s .pre .0)), omega (arith, n, h)))
 
 put-texts-requires : tie.Need-put-texts-requires
-put-texts-requires c κs = search needs
+put-texts-requires c κs = let s = c .before .before .before .before .before .before .before .before .before .before .before .before .before .before .before .before in let f = now (s .args .front) in let h = has-room f (now (s .args .out)) (c .before .before .before .before .before .before .before .before .before .before .before .before .before .length .ensures) (c .before .before .before .before .before .before .before .before .before .before .before .before .fit .ensures) (c .before .before .before .before .before .before .before .before .before .before .enum-told .given .1) in (s .pre, (c .before .before .before .before .before .before .before .before .before .count .ensures, omega (arith, h)))
 
 same-length : tie.Need-same-length
 same-length c = search needs

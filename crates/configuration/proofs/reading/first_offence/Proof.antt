@@ -1,53 +1,48 @@
 -- `configuration::reading::first_offence` meets its contract. Assumes nothing.
-use mathlib.Core.Path.{_≡_, refl, sym, ap, _∙_}
-use mathlib.Core.Bool.{true, not}
-use Prim.Native.Nat.{_≤_, _-_}
+use mathlib.Core.Path.{_∙_}
 use native.Mathlib.Omega.{arith}
 use denote.Ref.{now}
+use Rattle.configuration.specs.Page.{headerPlace}
+use Rattle.configuration.specs.Read.{offenceBelow}
+use Rattle.configuration.proofs.Searched.{found-in, none-there}
 use borrow.Author.Needs.{needs}
-use Rattle.bits.specs.Choice.{allBelow}
-use Rattle.bits.proofs.Logic.{fails, first-at, first-none, below-next}
-use Rattle.configuration.specs.Read.{offends}
 use Rattle.configuration.proofs.reading.first_offence.Statement.{statement}
 use Rattle.configuration.proofs.reading.first_offence.Tie as tie
 
-abbrev Inv-loop : tie.InvT-loop
-Inv-loop page n k₀ k = (k ≤ n) × (allBelow (fails (offends page)) k ≡ true)
+fixed-offence-requires : tie.Need-fixed-offence-requires
+fixed-offence-requires c κs = search needs
 
-abbrev μ-loop : tie.MeasureT-loop
-μ-loop page n k₀ k = n - k
+returns : tie.Need-returns
+returns c = let s = c .before .before .before in found-in (now (s .args .page)) (headerPlace 0) (s .args .n) (c .before .fixed-offence .ensures) (c .if1 .taken) (omega arith)
 
-loop-holds : tie.Need-loop-holds Inv-loop μ-loop
-loop-holds c = (omega arith, refl)
+types-on-requires : tie.Need-types-on-requires
+types-on-requires c κs = search needs
 
-offends-requires : tie.Need-offends-requires Inv-loop μ-loop
-offends-requires c κs = search needs
+header-place-requires : tie.Need-header-place-requires
+header-place-requires c κs = search needs
 
-returns : tie.Need-returns Inv-loop μ-loop
-returns c = let s = c .before .before .before .before .before .args in let l = c .before .before .before .loop in sym (first-at (offends (now (s .page))) (s .n) (l .k) (c .before .before .loop-test .taken) (l .inv .1) (sym (c .before .offends .ensures) ∙ c .if1 .taken))
+headers-offence-requires : tie.Need-headers-offence-requires
+headers-offence-requires c κs = search needs
 
-add-k : tie.Need-add-k Inv-loop μ-loop
-add-k c = omega arith
+returns-2 : tie.Need-returns-2
+returns-2 c = let s = c .before .before .before .before .before .before .before in let h = c .before .before .header-place .ensures in found-in (now (s .args .page)) (headerPlace (c .before .before .before .types-on .result)) (s .args .n) (c .before .headers-offence .ensures) (λ e. omega (arith, c .if2 .taken, e, h)) (omega (arith, c .before .before .before .types-on .ensures))
 
-loop-less : tie.Need-loop-less Inv-loop μ-loop
-loop-less c = omega arith
+texts-offence-requires : tie.Need-texts-offence-requires
+texts-offence-requires c κs = let s = c .before .before .before .before .before .before .before in let h = c .before .before .header-place .ensures in let n = c .before .before .before .types-on .ensures in (h ∙ rw n, (s .pre .1, (omega (arith, h, n), none-there (now (s .args .page)) h (c .before .headers-offence .ensures) (c .if2 .left))))
 
-loop-again : tie.Need-loop-again Inv-loop μ-loop
-loop-again c = let s = c .before .before .before .before .before .args in let l = c .before .before .before .loop in (omega arith, below-next (fails (offends (now (s .page)))) (l .k) (l .inv .1) (ap not (sym (c .before .offends .ensures) ∙ c .if1 .left)))
-
-returns-2 : tie.Need-returns-2 Inv-loop μ-loop
-returns-2 c = let s = c .before .before .before .args in let e : c .before .loop .k ≡ s .n = omega arith in e ∙ sym (first-none (offends (now (s .page))) (s .n) (rw e at (c .before .loop .inv .1)))
+returns-3 : tie.Need-returns-3
+unfolding offenceBelow
+returns-3 c = c .texts-offence .ensures
 
 pub first-offence-spec : {M : Type 1} → statement M
 first-offence-spec =
     tie.close
     (tie.spec
-    Inv-loop
-    μ-loop
-    loop-holds
-    offends-requires
+    fixed-offence-requires
     returns
-    add-k
-    loop-less
-    loop-again
-    returns-2)
+    types-on-requires
+    header-place-requires
+    headers-offence-requires
+    returns-2
+    texts-offence-requires
+    returns-3)

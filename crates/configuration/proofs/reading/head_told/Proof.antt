@@ -1,22 +1,40 @@
 -- `configuration::reading::head_told` meets its contract. Assumes nothing.
-use Rattle.configuration.specs.Told.{headTold}
+use denote.Ref.{now}
+use native.Mathlib.Omega.{arith}
+use Rattle.configuration.proofs.Carried.{told-head, past-head}
 use borrow.Author.Needs.{needs}
 use Rattle.configuration.proofs.reading.head_told.Statement.{statement}
 use Rattle.configuration.proofs.reading.head_told.Tie as tie
 
-told-byte-requires : tie.Need-told-byte-requires
-told-byte-requires c κs = search needs
+types-on-requires : tie.Need-types-on-requires
+types-on-requires c κs = search needs
 
-told-byte-requires-2 : tie.Need-told-byte-requires-2
-told-byte-requires-2 c κs = search needs
+header-on-requires : tie.Need-header-on-requires
+header-on-requires c κs = search needs
 
-told-byte-requires-3 : tie.Need-told-byte-requires-3
-told-byte-requires-3 c κs = search needs
+array-read-t10 : tie.Need-array-read-t10
+array-read-t10 c = search needs
+
+array-read-t13 : tie.Need-array-read-t13
+array-read-t13 c = search needs
+
+array-read-t16 : tie.Need-array-read-t16
+array-read-t16 c = search needs
 
 returns : tie.Need-returns
-unfolding headTold
-returns c = rw (c .before .before .told-byte .ensures, c .before .told-byte2 .ensures, c .told-byte3 .ensures)
+returns c = let s = c .before .before .before .before .args in told-head (now (s .page)) (s .t) (omega (arith, c .before .if1 .taken, c .before .before .types-on .ensures)) (c .header-on .ensures)
+
+returns-2 : tie.Need-returns-2
+returns-2 c = let s = c .before .before .before .args in past-head (now (s .page)) (s .t) (omega (arith, c .if1 .left, c .before .types-on .ensures))
 
 pub head-told-spec : {M : Type 1} → statement M
 head-told-spec =
-    tie.close (tie.spec told-byte-requires told-byte-requires-2 told-byte-requires-3 returns)
+    tie.close
+    (tie.spec
+    types-on-requires
+    header-on-requires
+    array-read-t10
+    array-read-t13
+    array-read-t16
+    returns
+    returns-2)

@@ -20,7 +20,7 @@ returns : tie.Need-returns
 returns c = search needs
 
 put-requires : tie.Need-put-requires
-put-requires c κs = search needs
+put-requires c κs = let s = c .before .before .before .before .before in (sym (c .before .before .before .test .ensures) ∙ c .before .enum-told .given .1, omega arith)
 
 returns-2 : tie.Need-returns-2
 returns-2 c = let s = c .before .before .before .before .before .before .args in told (now (s .page)) (now (s .configuration)) (omega arith) (sym (c .before .before .enum-told .given .1) ∙ c .before .before .before .before .test .ensures) (c .put .ensures)

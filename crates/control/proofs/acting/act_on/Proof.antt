@@ -5,20 +5,11 @@ use borrow.Author.Needs.{needs}
 use Rattle.control.proofs.acting.act_on.Statement.{statement}
 use Rattle.control.proofs.acting.act_on.Tie as tie
 
-places-of-requires : tie.Need-places-of-requires
-places-of-requires c κs = search needs
-
 four-at-requires : tie.Need-four-at-requires
 four-at-requires c κs = search needs
 
-of-requires : tie.Need-of-requires
-of-requires c κs = search needs
-
 four-at-requires-2 : tie.Need-four-at-requires-2
 four-at-requires-2 c κs = search needs
-
-of-requires-2 : tie.Need-of-requires-2
-of-requires-2 c κs = search needs
 
 chosen-requires : tie.Need-chosen-requires
 chosen-requires c κs = search needs
@@ -26,8 +17,8 @@ chosen-requires c κs = search needs
 settings-at-requires : tie.Need-settings-at-requires
 settings-at-requires c κs = search needs
 
-of-requires-3 : tie.Need-of-requires-3
-of-requires-3 c κs = search needs
+of-requires : tie.Need-of-requires
+of-requires c κs = search needs
 
 act-requires : tie.Need-act-requires
 act-requires c κs = search needs
@@ -42,30 +33,23 @@ same-length : tie.Need-same-length
 same-length c = search needs
 
 returns : tie.Need-returns
-returns c = let s = c .before .before .before .before .before .before .before .before .before .before .before .before .before .before .before .before .before .before .before .args in acted-on (now (s .shelf)) (now (s .page)) (s .j) (c .before .before .before .before .before .before .before .before .before .before .before .before .before .before .before .places-of .ensures) (c .before .before .before .before .before .before .before .before .before .before .before .before .before .before .four-at .ensures) (c .before .before .before .before .before .before .before .before .before .before .before .before .before .of .ensures) (c .before .before .before .before .before .before .before .before .before .before .before .before .four-at2 .ensures) (c .before .before .before .before .before .before .before .before .before .before .before .of2 .ensures) (c .before .before .before .before .before .before .before .before .before .before .chosen .ensures) (c .before .before .before .before .before .before .before .before .before .if1 .taken) (c .before .before .before .before .before .before .before .settings-at .ensures) (c .before .before .before .before .before .before .of3 .ensures) (c .before .before .before .before .before .act .ensures) (c .before .before .before .bytes .ensures) (c .before .before .put-settings .ensures)
-
-same-length-2 : tie.Need-same-length-2
-same-length-2 c = search needs
+returns c = let q = c .before .before .before .before .before .before .before .before .before .before .before .before .before .before .before in let s = q .args in acted-on (now (s .shelf)) (now (s .page)) (s .j) (q .pre .1 .1) (c .before .before .before .before .before .before .before .before .before .before .before .before .four-at .ensures) (c .before .before .before .before .before .before .before .before .before .before .before .four-at2 .ensures) (c .before .before .before .before .before .before .before .before .before .before .chosen .ensures) (c .before .before .before .before .before .before .before .before .before .if1 .taken) (c .before .before .before .before .before .before .before .settings-at .ensures) (c .before .before .before .before .before .before .of .ensures) (c .before .before .before .before .before .act .ensures) (c .before .before .before .bytes .ensures) (c .before .before .put-settings .ensures)
 
 returns-2 : tie.Need-returns-2
-returns-2 c = let s = c .before .before .before .before .before .before .before .before .before .before .args in left-alone (now (s .shelf)) (now (s .page)) (s .j) (c .before .before .before .before .before .before .places-of .ensures) (c .before .before .before .before .before .four-at .ensures) (c .before .before .before .before .of .ensures) (c .before .before .before .four-at2 .ensures) (c .before .before .of2 .ensures) (c .before .chosen .ensures) (c .if1 .left)
+returns-2 c = let q = c .before .before .before .before .before .before in let s = q .args in left-alone (now (s .shelf)) (now (s .page)) (s .j) (q .pre .1 .1) (c .before .before .before .four-at .ensures) (c .before .before .four-at2 .ensures) (c .before .chosen .ensures) (c .if1 .left)
 
 pub act-on-spec : {M : Type 1} → statement M
 act-on-spec =
     tie.close
     (tie.spec
-    places-of-requires
     four-at-requires
-    of-requires
     four-at-requires-2
-    of-requires-2
     chosen-requires
     settings-at-requires
-    of-requires-3
+    of-requires
     act-requires
     bytes-requires
     put-settings-requires
     same-length
     returns
-    same-length-2
     returns-2)

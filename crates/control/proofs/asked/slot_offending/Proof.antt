@@ -1,12 +1,8 @@
 -- `control::asked::slot_offending` meets its contract. Assumes nothing.
-use denote.Ref.{now}
-use Rattle.control.proofs.Turned.{slot-offends}
+use mathlib.Core.Path.{_∙_}
 use borrow.Author.Needs.{needs}
 use Rattle.control.proofs.asked.slot_offending.Statement.{statement}
 use Rattle.control.proofs.asked.slot_offending.Tie as tie
-
-slot-at-requires : tie.Need-slot-at-requires
-slot-at-requires c κs = search needs
 
 slot-place-requires : tie.Need-slot-place-requires
 slot-place-requires c κs = search needs
@@ -18,9 +14,8 @@ offending-requires : tie.Need-offending-requires
 offending-requires c κs = search needs
 
 returns : tie.Need-returns
-returns c = let s = c .before .before .before .before .before .before .args in slot-offends (now (s .shelf)) (now (s .page)) (s .i) (c .before .before .before .slot-at .ensures) (c .before .before .slot-place .ensures) (c .before .four-at .ensures) (c .offending .ensures)
+returns c = c .offending .ensures ∙ rw (c .before .four-at .ensures, c .before .before .slot-place .ensures)
 
 pub slot-offending-spec : {M : Type 1} → statement M
 slot-offending-spec =
-    tie.close
-    (tie.spec slot-at-requires slot-place-requires four-at-requires offending-requires returns)
+    tie.close (tie.spec slot-place-requires four-at-requires offending-requires returns)

@@ -1,7 +1,8 @@
 -- `control::asked::test` meets its contract. Assumes nothing.
 use denote.Ref.{now}
 use borrow.Author.Tests.{eq-eqb, ne-eqb}
-use Rattle.control.proofs.Turned.{page-refused, byte-refused, page-passed}
+use Rattle.pages.proofs.Paired.{page-front}
+use Rattle.control.proofs.Turned.{page-refused, page-room, byte-refused, page-passed}
 use borrow.Author.Needs.{needs}
 use Rattle.control.proofs.asked.test.Statement.{statement}
 use Rattle.control.proofs.asked.test.Tie as tie
@@ -19,10 +20,10 @@ returns : tie.Need-returns
 returns c = let s = c .before .before .before .before .before .args in page-refused (now (s .shelf)) (now (s .page)) (c .before .before .page .ensures) (c .enum-told2 .given .1)
 
 count-requires : tie.Need-count-requires
-count-requires c κs = search needs
+count-requires c κs = let s = c .before .before .before .before .before .args in page-front (now (s .shelf)) (now (s .page)) 0x02 (c .before .before .page .ensures) (c .enum-told .given .1) .1
 
 first-offence-requires : tie.Need-first-offence-requires
-first-offence-requires c κs = search needs
+first-offence-requires c κs = let s = c .before .before .before .before .before .before .args in page-room (now (s .shelf)) (now (s .page)) (c .before .before .before .page .ensures) (c .before .enum-told .given .1) (c .count .ensures)
 
 slot-place-requires : tie.Need-slot-place-requires
 slot-place-requires c κs = search needs

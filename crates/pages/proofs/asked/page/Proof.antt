@@ -1,6 +1,6 @@
 -- `pages::asked::page` meets its contract. Assumes nothing.
 use denote.Ref.{now}
-use Rattle.pages.proofs.Headed.{shelf-refused, page-asked}
+use Rattle.pages.proofs.Headed.{shelf-has, shelf-refused, page-asked}
 use borrow.Author.Needs.{needs}
 use Rattle.pages.proofs.asked.page.Statement.{statement}
 use Rattle.pages.proofs.asked.page.Tie as tie
@@ -18,10 +18,10 @@ returns : tie.Need-returns
 returns c = let s = c .before .before .before .before .before .args in shelf-refused (now (s .shelf)) (now (s .page)) (s .code) (c .before .before .shelf .ensures) (c .enum-told2 .given .1)
 
 count-requires : tie.Need-count-requires
-count-requires c κs = search needs
+count-requires c κs = shelf-has (now (c .before .before .before .before .before .args .shelf)) (c .before .before .shelf .ensures) (c .enum-told .given .1)
 
 test-requires : tie.Need-test-requires
-test-requires c κs = search needs
+test-requires c κs = shelf-has (now (c .before .before .before .before .before .before .args .shelf)) (c .before .before .before .shelf .ensures) (c .before .enum-told .given .1)
 
 returns-2 : tie.Need-returns-2
 returns-2 c = let s = c .before .before .before .before .before .before .before .args in page-asked (now (s .shelf)) (now (s .page)) (s .code) (c .before .before .before .before .shelf .ensures) (c .before .before .enum-told .given .1) (c .before .count .ensures) (c .test .ensures)

@@ -1,66 +1,53 @@
 -- `shelfctl::settings::put` is safe and ends.
-use mathlib.Core.Path.{_≡_, refl, ap, _∙_}
-use Prim.Native.Nat.{_-_}
+use mathlib.Core.Path.{sym, _∙_}
 use native.Mathlib.Omega.{arith}
-use lib.ListN.{length}
+use denote.Ref.{now}
 use borrow.Author.Needs.{needs}
-use Rattle.bits.proofs.Placed.{length-put}
+use Rattle.opening.proofs.Stored.{opened-there}
 use Rattle.shelfctl.proofs.settings.put.Statement.{statement}
 use Rattle.shelfctl.proofs.settings.put.Tie as tie
 
-abbrev Inv-loop : tie.InvT-loop
-Inv-loop shelf list₀ n j₀ list j = length list ≡ length list₀
+open-shelf-requires : tie.Need-open-shelf-requires
+open-shelf-requires c κs = search needs
 
-abbrev μ-loop : tie.MeasureT-loop
-μ-loop shelf list₀ n j₀ list j = n - j
+enum-known-opened : tie.Need-enum-known-opened
+enum-known-opened c = search needs
 
-all-elements-requires : tie.Need-all-elements-requires Inv-loop μ-loop
-all-elements-requires c κs = tt
+enum-told : tie.Need-enum-told
+enum-told c = search needs
 
-loop-holds : tie.Need-loop-holds Inv-loop μ-loop
-loop-holds c = refl
+returns : tie.Need-returns
+returns c = search needs
 
-cast-put-four : tie.Need-cast-put-four Inv-loop μ-loop
-cast-put-four c = search needs
+cast-if1 : tie.Need-cast-if1
+cast-if1 c = search needs
 
-mul-put-four : tie.Need-mul-put-four Inv-loop μ-loop
-mul-put-four c = search needs
+mul-if1 : tie.Need-mul-if1
+mul-if1 c = search needs
 
-settings-at-requires : tie.Need-settings-at-requires Inv-loop μ-loop
-settings-at-requires c κs = tt
+put-records-requires : tie.Need-put-records-requires
+put-records-requires c κs = (opened-there (now (c .before .before .before .before .before .before .before .before .args .shelf)) (sym (c .before .before .before .before .before .open-shelf .ensures) ∙ c .before .before .before .opened .given .1) .1, c .before .if1 .taken)
 
-put-four-requires : tie.Need-put-four-requires Inv-loop μ-loop
-put-four-requires c κs = tt
+same-length : tie.Need-same-length
+same-length c = search needs
 
-add-j : tie.Need-add-j Inv-loop μ-loop
-add-j c = omega arith
+returns-2 : tie.Need-returns-2
+returns-2 c = search needs
 
-loop-less : tie.Need-loop-less Inv-loop μ-loop
-loop-less c = omega arith
-
-loop-again : tie.Need-loop-again Inv-loop μ-loop
-loop-again c = ap length (c .before .before .put-four .ensures) ∙ length-put _ _ _ ∙ c .before .before .before .before .before .before .loop .inv
-
-same-length : tie.Need-same-length Inv-loop μ-loop
-same-length c = c .before .loop .inv
-
-returns : tie.Need-returns Inv-loop μ-loop
-returns c = tt
+returns-3 : tie.Need-returns-3
+returns-3 c = search needs
 
 pub put-spec : {M : Type 1} → statement M
 put-spec =
     tie.close
     (tie.spec
-    Inv-loop
-    μ-loop
-    all-elements-requires
-    loop-holds
-    cast-put-four
-    mul-put-four
-    settings-at-requires
-    put-four-requires
-    add-j
-    loop-less
-    loop-again
+    open-shelf-requires
+    enum-known-opened
+    enum-told
+    returns
+    cast-if1
+    mul-if1
+    put-records-requires
     same-length
-    returns)
+    returns-2
+    returns-3)

@@ -5,9 +5,6 @@ use borrow.Author.Needs.{needs}
 use Rattle.status.proofs.reading.slot_offending.Statement.{statement}
 use Rattle.status.proofs.reading.slot_offending.Tie as tie
 
-slot-at-requires : tie.Need-slot-at-requires
-slot-at-requires c κs = search needs
-
 slot-place-requires : tie.Need-slot-place-requires
 slot-place-requires c κs = search needs
 
@@ -21,16 +18,15 @@ offending-requires : tie.Need-offending-requires
 offending-requires c κs = search needs
 
 returns : tie.Need-returns
-returns c = let s = c .before .before .before .before .before .before .before .args in offends-overall (now (s .configuration)) (now (s .page)) (s .i) (c .before .before .before .before .slot-at .ensures) (c .before .before .before .slot-place .ensures) (c .before .before .four-at .ensures) (c .before .if1 .taken) (c .overall-offending .ensures)
+returns c = let s = c .before .before .before .before .before .args in offends-overall (now (s .page)) (s .i) (s .at) (c .before .before .before .slot-place .ensures) (c .before .before .four-at .ensures) (c .before .if1 .taken) (c .overall-offending .ensures)
 
 returns-2 : tie.Need-returns-2
-returns-2 c = let s = c .before .before .before .before .before .before .before .args in offends-element (now (s .configuration)) (now (s .page)) (s .i) (c .before .before .before .before .slot-at .ensures) (c .before .before .before .slot-place .ensures) (c .before .before .four-at .ensures) (c .before .if1 .left) (c .offending .ensures)
+returns-2 c = let s = c .before .before .before .before .before .args in offends-element (now (s .page)) (s .i) (s .at) (c .before .before .before .slot-place .ensures) (c .before .before .four-at .ensures) (c .before .if1 .left) (c .offending .ensures)
 
 pub slot-offending-spec : {M : Type 1} → statement M
 slot-offending-spec =
     tie.close
     (tie.spec
-    slot-at-requires
     slot-place-requires
     four-at-requires
     overall-offending-requires

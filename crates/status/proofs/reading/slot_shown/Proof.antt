@@ -5,9 +5,6 @@ use borrow.Author.Needs.{needs}
 use Rattle.status.proofs.reading.slot_shown.Statement.{statement}
 use Rattle.status.proofs.reading.slot_shown.Tie as tie
 
-slot-at-requires : tie.Need-slot-at-requires
-slot-at-requires c κs = search needs
-
 slot-place-requires : tie.Need-slot-place-requires
 slot-place-requires c κs = search needs
 
@@ -24,16 +21,15 @@ of-requires : tie.Need-of-requires
 of-requires c κs = search needs
 
 returns : tie.Need-returns
-returns c = let s = c .before .before .before .before .before .before .before .args in shows-overall (now (s .configuration)) (now (s .page)) (s .i) (c .before .before .before .before .slot-at .ensures) (c .before .before .before .slot-place .ensures) (c .before .before .four-at .ensures) (c .before .if1 .taken) (c .code-alone .ensures)
+returns c = let s = c .before .before .before .before .before .args in shows-overall (now (s .page)) (s .i) (s .at) (c .before .before .before .slot-place .ensures) (c .before .before .four-at .ensures) (c .before .if1 .taken) (c .code-alone .ensures)
 
 returns-2 : tie.Need-returns-2
-returns-2 c = let s = c .before .before .before .before .before .before .before .args in shows-element (now (s .configuration)) (now (s .page)) (s .i) (c .before .before .before .before .slot-at .ensures) (c .before .before .before .slot-place .ensures) (c .before .before .four-at .ensures) (c .before .if1 .left) (c .of .ensures)
+returns-2 c = let s = c .before .before .before .before .before .args in shows-element (now (s .page)) (s .i) (s .at) (c .before .before .before .slot-place .ensures) (c .before .before .four-at .ensures) (c .before .if1 .left) (c .of .ensures)
 
 pub slot-shown-spec : {M : Type 1} → statement M
 slot-shown-spec =
     tie.close
     (tie.spec
-    slot-at-requires
     slot-place-requires
     four-at-requires
     array-read-code-alone

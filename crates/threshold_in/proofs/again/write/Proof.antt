@@ -2,12 +2,14 @@
 use mathlib.Core.Path.{refl, sym, _∙_}
 use native.Mathlib.Omega.{arith}
 use denote.Ref.{now}
+use lib.ListN.{length}
 use borrow.Author.Tests.{eq-eqb, ne-eqb}
 use Rattle.opening.proofs.Stages.{configuration-sizes, not-configuration}
 use Rattle.opening.proofs.Parts.{few-types, few-elements}
-use Rattle.pages.proofs.Bounds.{configuration-front}
+use Rattle.pages.proofs.Bounds.{configuration-front, configuration-there, slots-bound}
+use Rattle.pages.proofs.Headed.{head-length}
 use Rattle.pages.proofs.Counted.{slots-are}
-use Rattle.pages.proofs.Fitted.{out-kept}
+use Rattle.pages.proofs.Fitted.{page-room, out-kept}
 use Rattle.threshold_in.specs.Again.{pageAgain}
 use Rattle.threshold_in.proofs.Asked.{again-no-configuration, other-entries, rows-refused, again-writes, again-fits, again-out}
 use borrow.Author.Needs.{needs}
@@ -36,7 +38,7 @@ returns-2 : tie.Need-returns-2
 returns-2 c = let s = now (c .before .before .before .before .before .before .before .before .before .before .args .configuration) in let z = configuration-sizes s (sym (c .before .before .before .before .before .before .before .open-configuration .ensures) ∙ c .before .before .before .before .before .opened .given .1) in let e = slots-are s (z .1) (z .2) in let r = now (c .before .before .before .before .before .before .before .before .before .before .args .fields) in let o = now (c .before .before .before .before .before .before .before .before .before .before .args .out) in (other-entries s r o (z .0) e (ne-eqb _ _ (λ q. c .if1 .taken (c .before .big16-at .ensures ∙ q))), refl)
 
 test-requires : tie.Need-test-requires
-test-requires c κs = search needs
+test-requires c κs = let q = c .before .before .before .before .before .before .before .before .before .before .before in let s = now (q .args .configuration) in let z = configuration-sizes s (sym (c .before .before .before .before .before .before .before .before .open-configuration .ensures) ∙ c .before .before .before .before .before .before .opened .given .1) in let e = slots-are s (z .1) (z .2) in let b = slots-bound s (configuration-front s (z .0)) in (configuration-there s (z .0), omega (arith, e), omega (arith, e, b))
 
 enum-told-2 : tie.Need-enum-told-2
 enum-told-2 c = search needs
@@ -66,7 +68,7 @@ returns-4 : tie.Need-returns-4
 returns-4 c = let s = now (c .before .before .before .before .before .before .before .before .before .before .before .before .before .before .before .before .before .before .args .configuration) in let z = configuration-sizes s (sym (c .before .before .before .before .before .before .before .before .before .before .before .before .before .before .before .open-configuration .ensures) ∙ c .before .before .before .before .before .before .before .before .before .before .before .before .before .opened .given .1) in let e = slots-are s (z .1) (z .2) in let r = now (c .before .before .before .before .before .before .before .before .before .before .before .before .before .before .before .before .before .before .args .fields) in let o = now (c .before .before .before .before .before .before .before .before .before .before .before .before .before .before .before .before .before .before .args .out) in (again-writes s r o (z .0) e (eq-eqb _ _ (sym (c .before .before .before .before .before .before .before .before .before .big16-at .ensures) ∙ c .before .before .before .before .before .before .before .before .if1 .left)) (c .before .before .before .before .before .before .test .ensures) (c .before .before .before .before .enum-told2 .given .1) (again-fits s r o e (c .before .before .before .slot-place .ensures) (c .before .before .fit .ensures)), out-kept (pageAgain s r) o (c .enum-told5 .given .1))
 
 put-requires : tie.Need-put-requires
-put-requires c κs = search needs
+put-requires c κs = let q = c .before .before .before .before .before .before .before .before .before .before .before .before .before .before .before .before .before .before .before in let s = now (q .args .configuration) in let z = configuration-sizes s (sym (c .before .before .before .before .before .before .before .before .before .before .before .before .before .before .before .before .open-configuration .ensures) ∙ c .before .before .before .before .before .before .before .before .before .before .before .before .before .before .opened .given .1) in let r = page-room _ _ (length (now (q .args .out))) (c .before .before .before .before .slot-place .ensures) (c .before .before .before .fit .ensures) (c .before .enum-told4 .given .1) in (configuration-there s (z .0) .1, omega (arith, r))
 
 cast-copy : tie.Need-cast-copy
 cast-copy c = search needs
@@ -81,7 +83,7 @@ mul-copy : tie.Need-mul-copy
 mul-copy c = search needs
 
 copy-requires : tie.Need-copy-requires
-copy-requires c κs = search needs
+copy-requires c κs = let q = c .before .before .before .before .before .before .before .before .before .before .before .before .before .before .before .before .before .before .before .before .before .before .before .before in let s = now (q .args .configuration) in let z = configuration-sizes s (sym (c .before .before .before .before .before .before .before .before .before .before .before .before .before .before .before .before .before .before .before .before .before .open-configuration .ensures) ∙ c .before .before .before .before .before .before .before .before .before .before .before .before .before .before .before .before .before .before .before .opened .given .1) in let e = slots-are s (z .1) (z .2) in let b = slots-bound s (configuration-front s (z .0)) in let r = page-room _ _ (length (now (q .args .out))) (c .before .before .before .before .before .before .before .before .before .slot-place .ensures) (c .before .before .before .before .before .before .before .before .fit .ensures) (c .before .before .before .before .before .before .enum-told4 .given .1) in (omega (arith, e, b), omega (arith, r, head-length s (now (q .args .out)) 5 0 _ (c .before .before .before .before .put .ensures)))
 
 same-length : tie.Need-same-length
 same-length c = search needs

@@ -5,8 +5,11 @@ use denote.Ref.{now}
 use Rattle.opening.proofs.Stages.{formed-sizes, not-formed}
 use Rattle.opening.proofs.Typed.{front-formed}
 use Rattle.opening.proofs.Parts.{few-types, few-elements}
+use lib.ListN.{length}
+use Rattle.pages.proofs.Bounds.{shelf-there}
+use Rattle.pages.proofs.Headed.{head-length}
 use Rattle.pages.proofs.Counted.{slots-are}
-use Rattle.pages.proofs.Fitted.{out-kept}
+use Rattle.pages.proofs.Fitted.{page-room, out-kept}
 use Rattle.threshold_in.specs.Page.{thresholdPage}
 use Rattle.threshold_in.proofs.Asked.{no-shelf, shelf-writes, shelf-out}
 use borrow.Author.Needs.{needs}
@@ -44,10 +47,10 @@ returns-2 : tie.Need-returns-2
 returns-2 c = let s = now (c .before .before .before .before .before .before .before .before .before .before .before .args .shelf) in let z = formed-sizes s (sym (c .before .before .before .before .before .before .before .before .open-shelf .ensures) ∙ c .before .before .before .before .before .before .opened .given .1) in let o = now (c .before .before .before .before .before .before .before .before .before .before .before .args .out) in (shelf-writes s o (slots-are s (z .1) (z .2)) (c .before .before .before .slot-place .ensures) (c .before .before .fit .ensures) (z .0), out-kept (thresholdPage s) o (c .enum-told3 .given .1))
 
 put-requires : tie.Need-put-requires
-put-requires c κs = search needs
+put-requires c κs = let q = c .before .before .before .before .before .before .before .before .before .before .before .before in let s = now (q .args .shelf) in let z = formed-sizes s (sym (c .before .before .before .before .before .before .before .before .before .open-shelf .ensures) ∙ c .before .before .before .before .before .before .before .opened .given .1) in let r = page-room _ _ (length (now (q .args .out))) (c .before .before .before .before .slot-place .ensures) (c .before .before .before .fit .ensures) (c .before .enum-told2 .given .1) in (shelf-there s (z .0) .1, omega (arith, r))
 
 put-slots-requires : tie.Need-put-slots-requires
-put-slots-requires c κs = search needs
+put-slots-requires c κs = let q = c .before .before .before .before .before .before .before .before .before .before .before .before .before .before .before .before in let s = now (q .args .shelf) in let z = formed-sizes s (sym (c .before .before .before .before .before .before .before .before .before .before .before .before .before .open-shelf .ensures) ∙ c .before .before .before .before .before .before .before .before .before .before .before .opened .given .1) in let r = page-room _ _ (length (now (q .args .out))) (c .before .before .before .before .before .before .before .before .slot-place .ensures) (c .before .before .before .before .before .before .before .fit .ensures) (c .before .before .before .before .before .enum-told2 .given .1) in let e = slots-are s (z .1) (z .2) in ((z .0, omega (arith, r, e, head-length s (now (q .args .out)) 5 0 _ (c .before .before .before .put .ensures))), e)
 
 same-length : tie.Need-same-length
 same-length c = search needs

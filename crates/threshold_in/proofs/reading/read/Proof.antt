@@ -6,7 +6,8 @@ use lib.Dec.{eqb}
 use borrow.Author.Tests.{eq-eqb, ne-eqb}
 use Rattle.opening.proofs.Stages.{configuration-sizes, not-configuration}
 use Rattle.opening.proofs.Parts.{few-types, few-elements}
-use Rattle.pages.proofs.Bounds.{configuration-front, slots-bound}
+use Rattle.pages.proofs.Bounds.{configuration-front, configuration-there, slots-bound}
+use Rattle.pages.proofs.HeadAgain.{length-tested}
 use Rattle.pages.proofs.Counted.{slots-are}
 use Rattle.pages.proofs.Fitted.{record-kept}
 use Rattle.threshold_in.specs.Read.{thresholdRecord}
@@ -31,7 +32,7 @@ add-n : tie.Need-add-n
 add-n c = let s = now (c .before .before .before .before .before .before .before .args .configuration) in let z = configuration-sizes s (sym (c .before .before .before .before .open-configuration .ensures) ∙ c .before .before .opened .given .1) in let h = configuration-front s (z .0) in omega (arith, z .1, z .2, few-types s h, few-elements s h)
 
 test-requires : tie.Need-test-requires
-test-requires c κs = search needs
+test-requires c κs = let q = c .before .before .before .before .before .before .before in let s = now (q .args .configuration) in let z = configuration-sizes s (sym (c .before .before .before .before .open-configuration .ensures) ∙ c .before .before .opened .given .1) in configuration-there s (z .0) .1
 
 enum-told-2 : tie.Need-enum-told-2
 enum-told-2 c = search needs
@@ -43,13 +44,13 @@ returns-2 : tie.Need-returns-2
 returns-2 c = let s = now (c .before .before .before .before .before .before .before .before .before .before .args .configuration) in let z = configuration-sizes s (sym (c .before .before .before .before .before .before .before .open-configuration .ensures) ∙ c .before .before .before .before .before .opened .given .1) in let e = slots-are s (z .1) (z .2) in let p = now (c .before .before .before .before .before .before .before .before .before .before .args .page) in let r = now (c .before .before .before .before .before .before .before .before .before .before .args .fields) in (no-head s p (z .0) e (c .before .before .test .ensures) (c .enum-told3 .given .1), record-kept (thresholdRecord s p) r (c .enum-told3 .given .1))
 
 byte-at-requires : tie.Need-byte-at-requires
-byte-at-requires c κs = search needs
+byte-at-requires c κs = let s = c .before .before .before .before .before .before .before .before .before .before .args in omega (arith, length-tested (now (s .configuration)) (now (s .page)) 0x05 _ (sym (c .before .before .test .ensures) ∙ c .enum-told2 .given .1))
 
 returns-3 : tie.Need-returns-3
 returns-3 c = let s = now (c .before .before .before .before .before .before .before .before .before .before .before .before .args .configuration) in let z = configuration-sizes s (sym (c .before .before .before .before .before .before .before .before .before .open-configuration .ensures) ∙ c .before .before .before .before .before .before .before .opened .given .1) in let e = slots-are s (z .1) (z .2) in let p = now (c .before .before .before .before .before .before .before .before .before .before .before .before .args .page) in let r = now (c .before .before .before .before .before .before .before .before .before .before .before .before .args .fields) in (other-byte s p (z .0) e (c .before .before .before .before .test .ensures) (c .before .before .enum-told2 .given .1) (ap (λ b. eqb b 0) (sym (c .before .byte-at .ensures)) ∙ ne-eqb _ 0 (c .if1 .taken)), refl)
 
 test-requires-2 : tie.Need-test-requires-2
-test-requires-2 c κs = search needs
+test-requires-2 c κs = let q = c .before .before .before .before .before .before .before .before .before .before .before .before in let s = now (q .args .configuration) in let z = configuration-sizes s (sym (c .before .before .before .before .before .before .before .before .before .open-configuration .ensures) ∙ c .before .before .before .before .before .before .before .opened .given .1) in let e = slots-are s (z .1) (z .2) in (configuration-there s (z .0), omega (arith, e), omega (arith, length-tested s (now (q .args .page)) 0x05 _ (sym (c .before .before .before .before .test .ensures) ∙ c .before .before .enum-told2 .given .1)))
 
 enum-told-4 : tie.Need-enum-told-4
 enum-told-4 c = search needs
@@ -76,7 +77,7 @@ mul-copy : tie.Need-mul-copy
 mul-copy c = search needs
 
 copy-requires : tie.Need-copy-requires
-copy-requires c κs = search needs
+copy-requires c κs = let q = c .before .before .before .before .before .before .before .before .before .before .before .before .before .before .before .before .before .before in let s = now (q .args .configuration) in let z = configuration-sizes s (sym (c .before .before .before .before .before .before .before .before .before .before .before .before .before .before .before .open-configuration .ensures) ∙ c .before .before .before .before .before .before .before .before .before .before .before .before .before .opened .given .1) in let e = slots-are s (z .1) (z .2) in (omega (arith, length-tested s (now (q .args .page)) 0x05 _ (sym (c .before .before .before .before .before .before .before .before .before .before .test .ensures) ∙ c .before .before .before .before .before .before .before .before .enum-told2 .given .1)), omega (arith, e, slots-bound s (configuration-front s (z .0))))
 
 returns-5 : tie.Need-returns-5
 returns-5 c = let s = now (c .before .before .before .before .before .before .before .before .before .before .before .before .before .before .before .before .before .before .before .args .configuration) in let z = configuration-sizes s (sym (c .before .before .before .before .before .before .before .before .before .before .before .before .before .before .before .before .open-configuration .ensures) ∙ c .before .before .before .before .before .before .before .before .before .before .before .before .before .before .opened .given .1) in let e = slots-are s (z .1) (z .2) in let p = now (c .before .before .before .before .before .before .before .before .before .before .before .before .before .before .before .before .before .before .before .args .page) in let r = now (c .before .before .before .before .before .before .before .before .before .before .before .before .before .before .before .before .before .before .before .args .fields) in let h = slots-bound s (configuration-front s (z .0)) in (sym (c .before .before .before .before .enum-told4 .given .1) ∙ slots-asked s p (z .0) e (c .before .before .before .before .before .before .before .before .before .before .before .test .ensures) (c .before .before .before .before .before .before .before .before .before .enum-told2 .given .1) (ap (λ b. eqb b 0) (sym (c .before .before .before .before .before .before .before .before .byte-at .ensures)) ∙ eq-eqb _ 0 (c .before .before .before .before .before .before .before .if1 .left)) (c .before .before .before .before .before .before .test2 .ensures), record-out s p r e (omega (arith, e, h)) (c .before .before .put-head .ensures) (c .copy .ensures))

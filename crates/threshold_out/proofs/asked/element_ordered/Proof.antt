@@ -5,9 +5,6 @@ use borrow.Author.Needs.{needs}
 use Rattle.threshold_out.proofs.asked.element_ordered.Statement.{statement}
 use Rattle.threshold_out.proofs.asked.element_ordered.Tie as tie
 
-places-of-requires : tie.Need-places-of-requires
-places-of-requires c κs = search needs
-
 taken-at-requires : tie.Need-taken-at-requires
 taken-at-requires c κs = search needs
 
@@ -15,8 +12,8 @@ are-ordered-requires : tie.Need-are-ordered-requires
 are-ordered-requires c κs = search needs
 
 returns : tie.Need-returns
-returns c = let s = c .before .before .before .before .before .args in ordered-is (now (s .shelf)) (now (s .page)) (s .j) (c .before .before .places-of .ensures) (c .before .taken-at .ensures) (c .are-ordered .ensures)
+returns c = let s = c .before .before .before .before .args in ordered-is (now (s .shelf)) (now (s .page)) (s .j) (c .before .before .before .before .pre .1 .1) (c .before .taken-at .ensures) (c .are-ordered .ensures)
 
 pub element-ordered-spec : {M : Type 1} → statement M
 element-ordered-spec =
-    tie.close (tie.spec places-of-requires taken-at-requires are-ordered-requires returns)
+    tie.close (tie.spec taken-at-requires are-ordered-requires returns)

@@ -1,9 +1,11 @@
 -- `threshold_out::asked::test` meets its contract. Assumes nothing.
 use mathlib.Core.Path.{sym, ap, _∙_}
 use Prim.Native.Nat.{ℕ}
+use native.Mathlib.Omega.{arith}
 use lib.Dec.{eqb}
 use denote.Ref.{now}
 use borrow.Author.Tests.{eq-eqb, ne-eqb, not-true, not-false}
+use Rattle.pages.proofs.Paired.{page-has, page-front}
 use Rattle.threshold_out.proofs.Turned.{page-refused, byte-refused, not-had, order-refused, page-passed}
 use borrow.Author.Needs.{needs}
 use Rattle.threshold_out.proofs.asked.test.Statement.{statement}
@@ -22,22 +24,22 @@ returns : tie.Need-returns
 returns c = let s = c .before .before .before .before .before .args in page-refused (now (s .shelf)) (now (s .page)) (c .before .before .page .ensures) (c .enum-told2 .given .1)
 
 byte-at-requires : tie.Need-byte-at-requires
-byte-at-requires c κs = search needs
+byte-at-requires c κs = let s = c .before .before .before .before .before .args in omega (arith, page-has (now (s .shelf)) (now (s .page)) 0x05 (c .before .before .page .ensures) (c .enum-told .given .1) .1)
 
 returns-2 : tie.Need-returns-2
 returns-2 c = let s = c .before .before .before .before .before .before .before .args in byte-refused (now (s .shelf)) (now (s .page)) (c .before .before .before .before .page .ensures) (c .before .before .enum-told .given .1) (ap (λ (x : ℕ). eqb x 0) (sym (c .before .byte-at .ensures)) ∙ ne-eqb _ 0 (c .if1 .taken))
 
 count-requires : tie.Need-count-requires
-count-requires c κs = search needs
+count-requires c κs = let s = c .before .before .before .before .before .before .before .args in page-front (now (s .shelf)) (now (s .page)) 0x05 (c .before .before .before .before .page .ensures) (c .before .before .enum-told .given .1) .1
 
 all-had-requires : tie.Need-all-had-requires
-all-had-requires c κs = search needs
+all-had-requires c κs = let s = c .before .before .before .before .before .before .before .before .args in (page-front (now (s .shelf)) (now (s .page)) 0x05 (c .before .before .before .before .before .page .ensures) (c .before .before .before .enum-told .given .1), omega (arith, c .count .ensures), omega (arith, c .count .ensures, page-has (now (s .shelf)) (now (s .page)) 0x05 (c .before .before .before .before .before .page .ensures) (c .before .before .before .enum-told .given .1) .1))
 
 returns-3 : tie.Need-returns-3
 returns-3 c = let s = c .before .before .before .before .before .before .before .before .before .before .args in not-had (now (s .shelf)) (now (s .page)) (c .before .before .before .before .before .before .before .page .ensures) (c .before .before .before .before .before .enum-told .given .1) (ap (λ (x : ℕ). eqb x 0) (sym (c .before .before .before .before .byte-at .ensures)) ∙ eq-eqb _ 0 (c .before .before .before .if1 .left)) (c .before .before .count .ensures) (c .before .all-had .ensures) (not-true _ (c .if2 .taken))
 
 all-ordered-requires : tie.Need-all-ordered-requires
-all-ordered-requires c κs = search needs
+all-ordered-requires c κs = let s = c .before .before .before .before .before .before .before .before .before .before .args in page-has (now (s .shelf)) (now (s .page)) 0x05 (c .before .before .before .before .before .before .before .page .ensures) (c .before .before .before .before .before .enum-told .given .1)
 
 returns-4 : tie.Need-returns-4
 returns-4 c = let s = c .before .before .before .before .before .before .before .before .before .before .before .before .args in order-refused (now (s .shelf)) (now (s .page)) (c .before .before .before .before .before .before .before .before .before .page .ensures) (c .before .before .before .before .before .before .before .enum-told .given .1) (ap (λ (x : ℕ). eqb x 0) (sym (c .before .before .before .before .before .before .byte-at .ensures)) ∙ eq-eqb _ 0 (c .before .before .before .before .before .if1 .left)) (c .before .before .before .before .count .ensures) (c .before .before .before .all-had .ensures) (not-false _ (c .before .before .if2 .left)) (c .before .all-ordered .ensures) (not-true _ (c .if3 .taken))

@@ -1,0 +1,495 @@
+/* agree ROUNDS: every call on random shelves, pages, records and wishes, good and spoilt, by the library and by plain C. Both
+ * get the same memory and must leave the same: answers, lengths and every lent byte. Each answer that a call can give must
+ * come up. The random numbers are the same in every run. */
+#include "plain.h"
+
+#include <stdio.h>
+#include <stdlib.h>
+#include <string.h>
+
+enum { ROOM = 1600, OUT_ROOM = 400 };
+enum { COOLING = 0x03, TEMPERATURE = 0x04, VOLTAGE = 0x12, CURRENT = 0x13 };
+
+/* All memory that a call may be lent, and its answer. */
+struct lent {
+    uint8_t shelf[ROOM], configuration[ROOM], page[ROOM], wanted[ROOM], out[ROOM], told[SES_CONFIGURATION_LENGTH];
+    struct ses_status status;
+    struct ses_thresholds thresholds;
+    uint32_t written, selects, answer;
+};
+
+static const struct {
+    const char *name;
+    size_t start, length;
+} parts[] = {
+#define PART(name) {#name, offsetof(struct lent, name), sizeof((struct lent *)0)->name}
+    PART(shelf), PART(configuration), PART(page), PART(wanted), PART(out), PART(told),
+    PART(status), PART(thresholds), PART(written), PART(selects), PART(answer),
+};
+
+/* The calls with the refusals that each can give. */
+enum call {
+    CHECK,
+    WRITE_CONFIGURATION, READ_CONFIGURATION, REWRITE_CONFIGURATION,
+    WRITE_STATUS, READ_STATUS, REWRITE_STATUS,
+    WRITE_THRESHOLDS, READ_THRESHOLDS, REWRITE_THRESHOLDS,
+    APPLY_CONTROL, APPLY_THRESHOLDS, BUILD_CONTROL,
+    CALLS
+};
+
+enum { ANSWERS = 12 };
+
+static const struct {
+    const char *name;
+    uint8_t refusals[ANSWERS];
+} calls[CALLS] = {
+    [CHECK] = {"check", {1}},
+    [WRITE_CONFIGURATION] = {"write_configuration", {1, 11}},
+    [READ_CONFIGURATION] = {"read_configuration", {2, 3, 4, 6}},
+    [REWRITE_CONFIGURATION] = {"rewrite_configuration", {1, 11}},
+    [WRITE_STATUS] = {"write_status", {1, 11}},
+    [READ_STATUS] = {"read_status", {1, 2, 3, 4, 5, 6}},
+    [REWRITE_STATUS] = {"rewrite_status", {1, 6, 9, 11}},
+    [WRITE_THRESHOLDS] = {"write_thresholds", {1, 11}},
+    [READ_THRESHOLDS] = {"read_thresholds", {1, 2, 3, 4, 5, 6, 7, 8}},
+    [REWRITE_THRESHOLDS] = {"rewrite_thresholds", {1, 6, 7, 8, 9, 11}},
+    [APPLY_CONTROL] = {"apply_control", {1, 2, 3, 4, 5, 6}},
+    [APPLY_THRESHOLDS] = {"apply_thresholds", {1, 2, 3, 4, 5, 6, 7, 8}},
+    [BUILD_CONTROL] = {"build_control", {1, 9, 10, 11}},
+};
+
+static unsigned given[CALLS][ANSWERS];
+
+/* What both sides start from, and what each left. */
+static struct lent start, library, plain;
+static size_t shelf_length, configuration_length, page_length, wanted_length, out_length;
+static long round_number;
+
+/* The shelf before it was spoilt. */
+static uint8_t good[ROOM];
+static unsigned elements;
+
+static uint32_t below(uint32_t limit)
+{
+    static uint64_t state = 0x5E5;
+    state = state * 6364136223846793005u + 1442695040888963407u;
+    return (uint32_t)((state >> 32) * limit >> 32);
+}
+
+static int one_in(uint32_t n)
+{
+    return below(n) == 0;
+}
+
+static void fill(void *memory, size_t length)
+{
+    uint8_t *p = memory;
+    for (size_t i = 0; i < length; i++)
+        p[i] = (uint8_t)below(256);
+}
+
+static void put2(uint8_t *p, unsigned n)
+{
+    p[0] = (uint8_t)(n >> 8);
+    p[1] = (uint8_t)n;
+}
+
+/* Random shelves. */
+
+/* Mostly of few kinds, so that equal ones are frequent. */
+static void make_settings(uint8_t *settings, uint8_t type)
+{
+    unsigned few = !one_in(4);
+    settings[0] = few ? (uint8_t)(0x10u << below(4)) & 0x70 : (uint8_t)(below(8) << 4);
+    settings[1] = (uint8_t)(below(2) << 7);
+    settings[2] = 0;
+    settings[3] = 0;
+    if (type == COOLING)
+        settings[3] = (uint8_t)(below(few ? 2 : 4) << 5 | (1 + below(few ? 2 : 7)));
+    else
+        settings[1] |= (uint8_t)(below(2) << 6);
+}
+
+static void make_pair(uint8_t *greater, uint8_t *lesser)
+{
+    *greater = one_in(3) ? 0 : (uint8_t)below(256);
+    *lesser = one_in(3) ? 0 : (uint8_t)below(*greater == 0 ? 256 : *greater + 1);
+}
+
+static void make_limits(uint8_t *limits, uint8_t type)
+{
+    memset(limits, 0, 4);
+    if (type != COOLING)
+        make_pair(&limits[0], &limits[1]);
+    if (type == TEMPERATURE)
+        make_pair(&limits[2], &limits[3]);
+    if (type == VOLTAGE)
+        make_pair(&limits[3], &limits[2]);
+}
+
+/* Readings of volts and amperes are mostly near a limit. */
+static void make_measures(uint8_t *element, uint8_t type)
+{
+    if (type == COOLING) {
+        put2(element + 8, one_in(3) ? 0 : below(2048));
+    } else if (type == TEMPERATURE) {
+        element[9] = one_in(5) ? 0 : (uint8_t)below(256);
+    } else {
+        int nominal = 1 + (int)below(one_in(2) ? 2000 : 32767), limit = element[4 + below(4)];
+        int away = nominal * limit / 200 + (int)below(3) - 1, reading = one_in(2) ? nominal + away : nominal - away;
+        put2(element + 8, one_in(4) ? below(65536) : (unsigned)reading);
+        put2(element + 10, (unsigned)nominal);
+    }
+}
+
+static unsigned make_type(uint8_t *type, unsigned room)
+{
+    static const uint8_t codes[] = {COOLING, TEMPERATURE, VOLTAGE, CURRENT};
+    unsigned most = one_in(3) || room < 9 ? room : 9;
+    type[0] = codes[below(4)];
+    type[1] = (uint8_t)(one_in(8) ? room : below(most + 1));
+    type[2] = (uint8_t)below(33);
+    for (unsigned i = 0; i < type[2]; i++)
+        type[4 + i] = (uint8_t)(0x20 + below(0x5F));
+    return type[1];
+}
+
+static void make_shelf(void)
+{
+    memset(good, 0, sizeof good);
+    fill(good, 40);
+    good[40] = (uint8_t)(1 + below(8));
+    elements = 0;
+    for (unsigned t = 0; t < good[40]; t++) {
+        uint8_t *type = good + 44 + 36 * t;
+        unsigned end = elements + make_type(type, 64 - elements);
+        for (; elements < end; elements++) {
+            uint8_t *element = good + SES_CONFIGURATION_LENGTH + 16 * elements;
+            make_settings(element, type[0]);
+            make_limits(element + 4, type[0]);
+            make_measures(element, type[0]);
+        }
+    }
+}
+
+static uint8_t type_of(unsigned j)
+{
+    const uint8_t *type = good + 44;
+    for (; j >= type[1]; type += 36)
+        j -= type[1];
+    return type[0];
+}
+
+/* Spoils some bytes or the length, the bytes at the front more often than the others. */
+static void spoil(uint8_t *bytes, size_t *length, uint32_t front)
+{
+    uint8_t *place = bytes + below(*length == 0 || one_in(3) ? front : (uint32_t)*length);
+    switch (below(5)) {
+    case 0: *place ^= (uint8_t)(1u << below(8)); break;
+    case 1: *place = (uint8_t)below(256); break;
+    case 2: memset(place, 0, 2); break;
+    case 3: *length = *length == 0 || one_in(2) ? *length + 1 : *length - 1; break;
+    default: *length = below(one_in(2) ? 8 : (uint32_t)*length + 1);
+    }
+}
+
+/* Puts one number just past its limit. */
+static void pass_limit(void)
+{
+    unsigned j = below(elements);
+    uint8_t *element = start.shelf + SES_CONFIGURATION_LENGTH + 16 * j;
+    if (type_of(j) == COOLING)
+        put2(element + 8, 2048);
+    else if (type_of(j) == TEMPERATURE)
+        put2(element + 8, 256);
+    else
+        put2(element + 10, 32768);
+    start.configuration[45] = (uint8_t)(good[45] + 65 - elements);
+}
+
+static void lend_shelf(void)
+{
+    fill(&start, sizeof start);
+    shelf_length = SES_CONFIGURATION_LENGTH + 16 * elements;
+    configuration_length = SES_CONFIGURATION_LENGTH;
+    memcpy(start.shelf, good, shelf_length);
+    memcpy(start.configuration, good, configuration_length);
+    if (one_in(20) && elements > 0)
+        pass_limit();
+    if (one_in(5))
+        spoil(start.shelf, &shelf_length, 80);
+    if (one_in(5))
+        spoil(start.configuration, &configuration_length, 80);
+}
+
+static void choose_out_length(void)
+{
+    out_length = one_in(4) ? below(OUT_ROOM) : OUT_ROOM;
+}
+
+/* The library first, then plain C, each on a copy of its own. */
+
+static struct lent *lend(struct lent *side)
+{
+    memcpy(side, &start, sizeof start);
+    return side;
+}
+
+static void differ(enum call call, size_t at)
+{
+    size_t part = 0;
+    while (at - parts[part].start >= parts[part].length)
+        part++;
+    fprintf(stderr, "agree: round %ld, %s: the library answers %u, plain C %u\n", round_number, calls[call].name,
+            library.answer, plain.answer);
+    fprintf(stderr, "agree: byte %u of %s is %02Xh after the library, %02Xh after plain C\n",
+            (unsigned)(at - parts[part].start), parts[part].name, ((uint8_t *)&library)[at], ((uint8_t *)&plain)[at]);
+    exit(1);
+}
+
+static void compare(enum call call)
+{
+    for (size_t at = 0; at < sizeof library; at++)
+        if (((uint8_t *)&library)[at] != ((uint8_t *)&plain)[at])
+            differ(call, at);
+    if (library.answer >= ANSWERS) {
+        fprintf(stderr, "agree: round %ld, %s: both answer %u\n", round_number, calls[call].name, library.answer);
+        exit(1);
+    }
+    given[call][library.answer]++;
+}
+
+#define BOTH(number, name, ...)                                                                                        \
+    do {                                                                                                               \
+        struct lent *at = lend(&library);                                                                              \
+        uint32_t answer = ses_##name(__VA_ARGS__);                                                                     \
+        at->answer = answer;                                                                                           \
+        at = lend(&plain);                                                                                             \
+        answer = plain_##name(__VA_ARGS__);                                                                            \
+        at->answer = answer;                                                                                           \
+        compare(number);                                                                                               \
+    } while (0)
+
+#define SHELF at->shelf, shelf_length
+#define CONFIGURATION at->configuration, configuration_length
+#define PAGE at->page, page_length
+#define WANTED at->wanted, wanted_length
+#define OUT at->out, out_length, &at->written
+
+/* The pages that tell. */
+
+/* The page that the good shelf has. */
+static void make_page(uint8_t (*write)(const uint8_t *, size_t, uint8_t *, size_t, uint32_t *))
+{
+    uint32_t length;
+    write(good, SES_CONFIGURATION_LENGTH + 16 * elements, start.page, ROOM, &length);
+    page_length = length;
+}
+
+static void put_page_length(void)
+{
+    put2(start.page + 2, (unsigned)page_length - 4);
+}
+
+/* A page of a wrong length sometimes says its own. */
+static void spoil_page(void)
+{
+    if (one_in(2))
+        return;
+    spoil(start.page, &page_length, 12);
+    if (page_length >= 4 && one_in(4))
+        put_page_length();
+}
+
+/* A configuration page whose length is right for its types and texts, though there may be more than a shelf can have. */
+static void make_odd_configuration_page(void)
+{
+    unsigned types = below(11);
+    uint8_t *header = start.page + 48, *end = header + 4 * types, *text = end;
+    start.page[10] = (uint8_t)types;
+    for (; header < end; header += 4) {
+        header[0] = COOLING + (uint8_t)below(2);
+        header[1] = (uint8_t)below(16);
+        header[2] = 0;
+        header[3] = (uint8_t)below(34);
+        memset(text, ' ', header[3]);
+        text += header[3];
+    }
+    page_length = (size_t)(text - start.page);
+    put_page_length();
+}
+
+/* Spoils a record of this many bytes in use, its head now and then. */
+static void spoil_record(void *record, size_t length)
+{
+    uint8_t *place = (uint8_t *)record + below(one_in(4) ? 4 : (uint32_t)length);
+    switch (below(6)) {
+    case 0: *place = (uint8_t)below(3); break;
+    case 1: *place = (uint8_t)(1u << below(8)); break;
+    case 2: *place = (uint8_t)below(256); break;
+    }
+}
+
+static void compare_configuration(void)
+{
+    choose_out_length();
+    BOTH(CHECK, check, SHELF);
+    BOTH(WRITE_CONFIGURATION, write_configuration, SHELF, OUT);
+    BOTH(REWRITE_CONFIGURATION, rewrite_configuration, CONFIGURATION, OUT);
+    make_page(ses_write_configuration);
+    if (one_in(4))
+        make_odd_configuration_page();
+    spoil_page();
+    BOTH(READ_CONFIGURATION, read_configuration, PAGE, at->told);
+}
+
+static void compare_status(void)
+{
+    choose_out_length();
+    BOTH(WRITE_STATUS, write_status, SHELF, OUT);
+    make_page(ses_write_status);
+    struct ses_status record = start.status;
+    ses_read_status(good, SES_CONFIGURATION_LENGTH, start.page, page_length, &record);
+    spoil_page();
+    BOTH(READ_STATUS, read_status, CONFIGURATION, PAGE, &at->status);
+    start.status = record;
+    spoil_record(&start.status, 4 + 16 * (good[40] + elements));
+    BOTH(REWRITE_STATUS, rewrite_status, CONFIGURATION, &at->status, OUT);
+}
+
+static void compare_thresholds(void)
+{
+    choose_out_length();
+    BOTH(WRITE_THRESHOLDS, write_thresholds, SHELF, OUT);
+    make_page(ses_write_thresholds);
+    struct ses_thresholds record = start.thresholds;
+    ses_read_thresholds(good, SES_CONFIGURATION_LENGTH, start.page, page_length, &record);
+    spoil_page();
+    BOTH(READ_THRESHOLDS, read_thresholds, CONFIGURATION, PAGE, &at->thresholds);
+    start.thresholds = record;
+    spoil_record(&start.thresholds, 4 + 4 * (good[40] + elements));
+    BOTH(REWRITE_THRESHOLDS, rewrite_thresholds, CONFIGURATION, &at->thresholds, OUT);
+}
+
+/* The pages that act. */
+
+static void make_control(uint8_t *slot, uint8_t type)
+{
+    make_settings(slot, type);
+    if (one_in(2))
+        slot[3] &= 0xF8;
+    if (one_in(5))
+        fill(slot, 4);
+    slot[0] = one_in(4) ? slot[0] & 0x7F : slot[0] | 0x80;
+}
+
+/* How many slots ask for something is different from page to page: with many, a threshold page is mostly out of order. */
+static void make_out_page(uint8_t code, void (*make)(uint8_t *, uint8_t))
+{
+    unsigned slots = good[40] + elements, quiet = 1 + below(40);
+    uint8_t *slot = start.page + 8;
+    page_length = 8 + 4 * slots;
+    memset(start.page, 0, page_length);
+    start.page[0] = code;
+    start.page[1] = code == 0x02 ? (uint8_t)below(16) : 0;
+    put_page_length();
+    memcpy(start.page + 4, good, 4);
+    for (unsigned t = 0; t < good[40]; t++)
+        for (unsigned i = 0; i <= good[44 + 36 * t + 1]; i++, slot += 4)
+            if (one_in(quiet))
+                make(slot, good[44 + 36 * t]);
+}
+
+static void compare_apply(void)
+{
+    make_out_page(0x02, make_control);
+    spoil_page();
+    BOTH(APPLY_CONTROL, apply_control, SHELF, PAGE);
+    make_out_page(0x05, make_limits);
+    spoil_page();
+    BOTH(APPLY_THRESHOLDS, apply_thresholds, SHELF, PAGE);
+}
+
+/* The builder. */
+
+/* Of the elements of a type, these parts are wanted otherwise, mostly like the one before. SWAP is seldom wanted where it is not
+ * stored. */
+static void make_wish(void)
+{
+    unsigned otherwise = 1 + below(6), alike = 1 + below(6);
+    wanted_length = 4 * elements;
+    for (unsigned j = 0; j < elements; j++) {
+        uint8_t *record = start.wanted + 4 * j, *stored = good + SES_CONFIGURATION_LENGTH + 16 * j;
+        memcpy(record, stored, 4);
+        if (one_in(otherwise) && j > 0 && type_of(j) == type_of(j - 1) && !one_in(alike))
+            memcpy(record, record - 4, 4);
+        else if (one_in(otherwise))
+            make_settings(record, type_of(j));
+        if ((stored[0] & 0x10) == 0 && !one_in(500))
+            record[0] &= 0xEF;
+    }
+}
+
+static void compare_build(void)
+{
+    choose_out_length();
+    make_wish();
+    if (one_in(6))
+        spoil(start.wanted, &wanted_length, 4);
+    BOTH(BUILD_CONTROL, build_control, SHELF, WANTED, OUT, &at->selects);
+}
+
+/* What came up. */
+
+static int possible(enum call call, unsigned answer)
+{
+    return answer == 0 || memchr(calls[call].refusals, (int)answer, ANSWERS) != NULL;
+}
+
+/* Each answer that a call can give came up, and no other. */
+static int all_given(void)
+{
+    int right = 1;
+    for (int call = 0; call < CALLS; call++)
+        for (unsigned answer = 0; answer < ANSWERS; answer++)
+            if ((given[call][answer] != 0) != possible((enum call)call, answer)) {
+                fprintf(stderr, "agree: %s answered %u %u times\n", calls[call].name, answer, given[call][answer]);
+                right = 0;
+            }
+    return right;
+}
+
+static void print_given(void)
+{
+    printf("%-22s", "");
+    for (int answer = 0; answer < ANSWERS; answer++)
+        printf("%7d", answer);
+    for (int call = 0; call < CALLS; call++) {
+        printf("\n%-22s", calls[call].name);
+        for (int answer = 0; answer < ANSWERS; answer++)
+            if (given[call][answer] != 0)
+                printf("%7u", given[call][answer]);
+            else
+                printf("%7s", "-");
+    }
+    printf("\n");
+}
+
+int main(int argc, char **argv)
+{
+    long rounds = argc == 2 ? atol(argv[1]) : 0;
+    for (round_number = 1; round_number <= rounds; round_number++) {
+        make_shelf();
+        lend_shelf();
+        compare_configuration();
+        compare_status();
+        compare_thresholds();
+        compare_apply();
+        compare_build();
+    }
+    if (!all_given())
+        return 1;
+    printf("The library and plain C agree on %ld random shelves and their pages. How often each call gave each answer:\n", rounds);
+    print_given();
+    return 0;
+}

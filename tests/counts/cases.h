@@ -1,0 +1,16 @@
+/* What the image with the cases and the counter share. */
+#ifndef CASES_H
+#define CASES_H
+
+#include <stdint.h>
+
+enum { COUNTED_CALLS = 16, SHELVES = 4 };
+
+/* One case: a call on a shelf, its two functions, and the arguments of both. */
+struct job {
+    char call[32], shelf[32];
+    uint64_t library, plain;
+    uint64_t arguments[8];
+};
+
+#endif

@@ -35,6 +35,10 @@ pub and-right : (a b : Bool) → a && b ≡ true → b ≡ true
 and-right true b t = t
 and-right false b t = never (sym t)
 
+pub and-true : (a : Bool) → a && true ≡ a
+and-true true = refl
+and-true false = refl
+
 pub and-both : {a b : Bool} → a ≡ true → b ≡ true → a && b ≡ true
 and-both p q = rw (p, q)
 

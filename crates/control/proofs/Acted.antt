@@ -8,14 +8,13 @@ use native.Mathlib.Omega.{arith}
 use lib.ListN.{length}
 use Rattle.bits.specs.Choice.{pick}
 use Rattle.bits.specs.Places.{fourAt, putFour, foursPut}
-use Rattle.bits.proofs.Logic.{pick-yes, pick-no}
 use Rattle.bits.proofs.Fours.{put-same, fours-next, fours-length, fours-joined}
 use Rattle.kinds.specs.declared.types.Kind.{Kind}
 use Rattle.kinds.specs.declared.settings.Settings.{Settings}
 use Rattle.kinds.specs.declared.control.Control.{Control}
 use Rattle.kinds.specs.Settings.{settingsOf, settingsBytes}
-use Rattle.kinds.specs.Control.{controlOf, chosen, acted, settled}
-use Rattle.kinds.proofs.Settled.{settled-length}
+use Rattle.kinds.specs.Control.{selected, controlOf, chosen, acted, settled}
+use Rattle.kinds.proofs.Settled.{settled-length, own-acts, overall-acts, settled-by, settled-alone}
 use Rattle.refusals.specs.declared.Answer.{Answer}
 use Rattle.refusals.specs.declared.Refusal.{Refusal}
 use Rattle.refusals.specs.declared.Answer.the-variants.{Accepted, Refused}
@@ -34,24 +33,34 @@ use Rattle.control.proofs.Valid.{valid-headed}
 use Rattle.control.specs.Brought.{actingAt, settingsAfter, broughtTo, withSettings}
 
 -- one element
-module _ (s p : List ℕ) (j : ℕ) {at : Places} {a b : List ℕ} {c : Control} (q : at ≡ placesOf s j) (ha : a ≡ fourAt p (at .overall))
-    (hb : b ≡ fourAt p (at .own)) (w : c ≡ chosen (controlOf (at .kind) a) (controlOf (at .kind) b)) where
-  acting : c ≡ actingAt p (placesOf s j)
-  acting = w ∙ rw (ha, hb, q)
+module _ (s : List ℕ) (j : ℕ) where
+  pub acted-by : (k : Kind) (e : List ℕ) {f g o : List ℕ} {c : Control} {x y : Settings} → selected e ≡ true → c ≡ controlOf k e → f ≡ settingsAt s j
+      → x ≡ settingsOf k f → y ≡ acted c x → g ≡ settingsBytes k y → o ≡ settingsPut s j g
+      → o ≡ settingsPut s j (settled k (controlOf k e) (settingsAt s j))
+  acted-by k e t hc hf hx hy hg ho = ho ∙ ap (settingsPut s j) (hg ∙ rw (hy, hx, hc, hf) (sym (settled-by k e (settingsAt s j) t)))
 
-  pub left-alone : c .select ≡ false → s ≡ settingsPut s j (settingsAfter s p j)
-  unfolding settingsAfter settled settingsAt settingsPut
-  left-alone e =
-      let h : actingAt p (placesOf s j) .select ≡ false = rw acting at e in
-      sym (ap (putFour s (elementPlace j)) (pick-no _ _ _ h) ∙ put-same s (elementPlace j))
+  -- by its own control element, by the overall one, by none
+  module _ (p : List ℕ) {at : Places} {b : List ℕ} (q : at ≡ placesOf s j) (hb : b ≡ fourAt p (at .own)) where
+    made : (e : List ℕ) → chosen (controlOf (at .kind) (fourAt p (at .overall))) (controlOf (at .kind) (fourAt p (at .own))) ≡ controlOf (at .kind) e
+        → settled (at .kind) (controlOf (at .kind) e) (settingsAt s j) ≡ settingsAfter s p j
+    unfolding settingsAfter
+    made e h = ap (λ (c : Control). settled (at .kind) c (settingsAt s j)) (sym h) ∙ ap (λ (z : Places). settled (z .kind) (actingAt p z) (settingsAt s j)) q
 
-  pub acted-on : {e f o : List ℕ} {x y : Settings} → c .select ≡ true → e ≡ settingsAt s j → x ≡ settingsOf (at .kind) e → y ≡ acted c x
-      → f ≡ settingsBytes (at .kind) y → o ≡ settingsPut s j f → o ≡ settingsPut s j (settingsAfter s p j)
-  unfolding settingsAfter settled
-  acted-on {e} {f} t he hx hy hf ho =
-      let g : f ≡ settled (at .kind) c (settingsAt s j) = hf ∙ rw (hy, hx, he) (sym (pick-yes _ _ _ t)) in
-      let k : at .kind ≡ placesOf s j .kind = ap (λ (z : Places). z .kind) q in
-      ho ∙ ap (settingsPut s j) (g ∙ ap₂ (λ (z : Kind) (d : Control). settled z d (settingsAt s j)) k acting)
+    pub by-own : {o : List ℕ} → selected b ≡ true → o ≡ settingsPut s j (settled (at .kind) (controlOf (at .kind) b) (settingsAt s j))
+        → o ≡ settingsPut s j (settingsAfter s p j)
+    by-own t ho = ho ∙ ap (settingsPut s j) (made b (rw (← hb) (own-acts (at .kind) (fourAt p (at .overall)) b t)))
+
+    module _ {a : List ℕ} (ha : a ≡ fourAt p (at .overall)) (f : selected b ≡ false) where
+      by-rest : settled (at .kind) (controlOf (at .kind) a) (settingsAt s j) ≡ settingsAfter s p j
+      by-rest = made a (rw (← hb, ← ha) (overall-acts (at .kind) a b f))
+
+      pub by-overall : {o : List ℕ} → o ≡ settingsPut s j (settled (at .kind) (controlOf (at .kind) a) (settingsAt s j))
+          → o ≡ settingsPut s j (settingsAfter s p j)
+      by-overall ho = ho ∙ ap (settingsPut s j) by-rest
+
+      pub by-none : selected a ≡ false → s ≡ settingsPut s j (settingsAfter s p j)
+      unfolding settingsAt settingsPut
+      by-none u = sym (ap (putFour s (elementPlace j)) (sym by-rest ∙ settled-alone (at .kind) a (settingsAt s j) u) ∙ put-same s (elementPlace j))
 
 pub settings-place : (j : ℕ) → elementPlace j ≡ elementPlace j + 0
 settings-place j = sym (add-zero (elementPlace j))

@@ -1,16 +1,29 @@
 // What a control page makes of a shelf.
 use kinds::control::Control;
 use kinds::settings::Settings;
+use kinds::types::Kind;
 use pages::places;
 use pages::places::Places;
 use shelf::elements;
 use shelf::types;
 ghost use mathlib.Core.Path.{_≡_};
+ghost use mathlib.Core.Bool.{true};
+ghost use Rattle.kinds.specs.Control.{selected, controlOf, settled};
 ghost use Rattle.shelf.specs.Limits.{HasElement};
-ghost use Rattle.shelf.specs.Elements.{settingsPut};
+ghost use Rattle.shelf.specs.Elements.{settingsAt, settingsPut};
 ghost use Rattle.pages.specs.Places.{placesOf, HasSlots};
 ghost use Rattle.pages.specs.Header.{HasPage};
 ghost use Rattle.control.specs.Brought.{settingsAfter, broughtTo, withSettings};
+
+fn act_by(shelf: &mut [u8], kind: Kind, e: [u8; 4], j: u16)
+    requires { ⌜ HasElement (now shelf) j ⌝ }
+    requires { ⌜ selected e ≡ true ⌝ }
+    ensures { λ _. ⌜ now (shelf .exit) ≡ settingsPut (now (shelf .entry)) j (settled kind (controlOf kind e) (settingsAt (now (shelf .entry)) j)) ⌝ }
+{
+    let control = Control::of(kind, e);
+    let set = control.act(Settings::of(kind, elements::settings_at(shelf, j)));
+    elements::put_settings(shelf, j, set.bytes(kind));
+}
 
 // The settings of element j are put only if something acts on it.
 fn act_on(shelf: &mut [u8], page: &[u8], at: Places, j: u16)
@@ -20,14 +33,14 @@ fn act_on(shelf: &mut [u8], page: &[u8], at: Places, j: u16)
     ensures { λ _. ⌜ now (shelf .exit) ≡ settingsPut (now (shelf .entry)) j (settingsAfter (now (shelf .entry)) (now (page .entry)) j) ⌝ }
 {
     let kind = at.kind;
-    let control = Control::chosen(
-        kind,
-        bits::four_at(page, at.overall),
-        bits::four_at(page, at.own),
-    );
-    if control.select {
-        let set = control.act(Settings::of(kind, elements::settings_at(shelf, j)));
-        elements::put_settings(shelf, j, set.bytes(kind));
+    let own = bits::four_at(page, at.own);
+    if Control::is_selected(own) {
+        act_by(shelf, kind, own, j);
+        return;
+    }
+    let overall = bits::four_at(page, at.overall);
+    if Control::is_selected(overall) {
+        act_by(shelf, kind, overall, j);
     }
 }
 

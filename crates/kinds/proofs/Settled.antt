@@ -48,15 +48,33 @@ settled-length k c e h = go (c .select)
     go true = length-bytes k (acted c (settingsOf k e))
     go false = h
 
--- which of two acts, from what is read of the individual one
-module _ {a own : Control} (e : a ≡ own) where
-  pub own-acts : (overall : Control) → a .select ≡ true → a ≡ chosen overall own
-  unfolding chosen
-  own-acts overall h = e ∙ sym (pick-yes (own .select) own overall (sym (ap (λ (x : Control). x .select) e) ∙ h))
+-- which of two acts
+module _ (k : Kind) where
+  select-of : (e : List ℕ) → controlOf k e .select ≡ selected e
+  unfolding controlOf
+  select-of e = go (selected e)
+    where
+      go : (t : Bool) → pick t (asking (settingsOf k e)) unselected .select ≡ t
+      go true = refl
+      go false = refl
 
-  pub overall-acts : {b overall : Control} → a .select ≡ false → b ≡ overall → b ≡ chosen overall own
-  unfolding chosen
-  overall-acts {b} {overall} h q = q ∙ sym (pick-no (own .select) own overall (sym (ap (λ (x : Control). x .select) e) ∙ h))
+  module _ (overall own : List ℕ) where
+    pub own-acts : selected own ≡ true → chosen (controlOf k overall) (controlOf k own) ≡ controlOf k own
+    unfolding chosen
+    own-acts h = pick-yes _ _ _ (select-of own ∙ h)
+
+    pub overall-acts : selected own ≡ false → chosen (controlOf k overall) (controlOf k own) ≡ controlOf k overall
+    unfolding chosen
+    overall-acts h = pick-no _ _ _ (select-of own ∙ h)
+
+  -- what it makes of the stored settings
+  pub settled-by : (e x : List ℕ) → selected e ≡ true → settled k (controlOf k e) x ≡ settingsBytes k (acted (controlOf k e) (settingsOf k x))
+  unfolding settled
+  settled-by e x h = pick-yes _ _ _ (select-of e ∙ h)
+
+  pub settled-alone : (e x : List ℕ) → selected e ≡ false → settled k (controlOf k e) x ≡ x
+  unfolding settled
+  settled-alone e x h = pick-no _ _ _ (select-of e ∙ h)
 
 module _ (k : Kind) where
   -- what acts is the unselected element or one that asks for settings of the type

@@ -46,11 +46,11 @@ unfoldable pub controlOf : Kind → List ℕ → Control
 controlOf k e = pick (selected e) (asking (settingsOf k e)) unselected
 
 -- the first byte with a reserved bit set, 4 if none has one; they are tested in selected elements only
+abbrev pub reservedIn : Kind → List ℕ → ℕ
+reservedIn k e = firstOf (only (7 ∷ 6 ∷ 5 ∷ 4 ∷ []) (getD e 0 0)) (secondNamed k (getD e 1 0)) (eqb (getD e 2 0) 0) (fourthNamed k (getD e 3 0))
+
 unfoldable pub offending : Kind → List ℕ → ℕ
-offending k e =
-    pick (selected e)
-    (firstOf (only (7 ∷ 6 ∷ 5 ∷ 4 ∷ []) (getD e 0 0)) (secondNamed k (getD e 1 0)) (eqb (getD e 2 0) 0) (fourthNamed k (getD e 3 0)))
-    4
+offending k e = pick (selected e) (reservedIn k e) 4
 
 -- an individual element with SELECT acts alone; one without leaves its element to the overall one
 unfoldable pub chosen : Control → Control → Control

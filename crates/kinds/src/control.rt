@@ -3,7 +3,8 @@ use crate::settings;
 use crate::settings::Settings;
 use crate::types::Kind;
 ghost use mathlib.Core.Path.{_≡_};
-ghost use Rattle.kinds.specs.Control.{controlOf, offending, chosen, speedAfter, acted};
+ghost use Rattle.kinds.specs.declared.types.Kind.the-variants.{Cooling, Temperature};
+ghost use Rattle.kinds.specs.Control.{selected, controlOf, reservedIn, offending, speedAfter, acted};
 
 pub struct Control {
     pub select: bool,
@@ -29,10 +30,16 @@ impl Control {
         speed: 0,
     };
 
+    pub fn is_selected(e: [u8; 4]) -> bool
+        ensures { λ r. ⌜ r ≡ selected e ⌝ }
+    {
+        e[0] >> 7 & 1 == 1
+    }
+
     pub fn of(kind: Kind, e: [u8; 4]) -> Control
         ensures { λ r. ⌜ r ≡ controlOf kind e ⌝ }
     {
-        if e[0] >> 7 & 1 == 1 {
+        if Control::is_selected(e) {
             let s = Settings::of(kind, e);
             Control {
                 select: true,
@@ -53,28 +60,10 @@ impl Control {
     pub fn offending(kind: Kind, e: [u8; 4]) -> u8
         ensures { λ r. ⌜ r ≡ offending kind e ⌝ }
     {
-        let selected = e[0] >> 7 & 1 == 1;
-        if selected {
-            bits::first_of(
-                e[0] & 0x0f == 0,
-                settings::second_named(kind, e[1]),
-                e[2] == 0,
-                settings::fourth_named(kind, e[3]),
-            )
+        if Control::is_selected(e) {
+            reserved(kind, e)
         } else {
             4
-        }
-    }
-
-    // The overall element is decoded only where an element is left to it.
-    pub fn chosen(kind: Kind, overall: [u8; 4], own: [u8; 4]) -> Control
-        ensures { λ r. ⌜ r ≡ chosen (controlOf kind overall) (controlOf kind own) ⌝ }
-    {
-        let alone = Control::of(kind, own);
-        if alone.select {
-            alone
-        } else {
-            Control::of(kind, overall)
         }
     }
 
@@ -93,6 +82,38 @@ impl Control {
             speed,
         }
     }
+}
+
+// The first byte with a bit set that a control element does not name; 4 if none has one.
+fn reserved(kind: Kind, e: [u8; 4]) -> u8
+    ensures { λ r. ⌜ r ≡ reservedIn kind e ⌝ }
+{
+    match kind {
+        Kind::Cooling => fan_reserved(e),
+        Kind::Temperature | Kind::Voltage | Kind::Current => sensor_reserved(e),
+    }
+}
+
+fn fan_reserved(e: [u8; 4]) -> u8
+    ensures { λ r. ⌜ r ≡ reservedIn Cooling e ⌝ }
+{
+    bits::first_of(
+        e[0] & 0x0f == 0,
+        e[1] & settings::FAN_SECOND == 0,
+        e[2] == 0,
+        e[3] & settings::FAN_FOURTH == 0,
+    )
+}
+
+fn sensor_reserved(e: [u8; 4]) -> u8
+    ensures { λ r. ⌜ r ≡ reservedIn Temperature e ⌝ }
+{
+    bits::first_of(
+        e[0] & 0x0f == 0,
+        e[1] & settings::SENSOR_SECOND == 0,
+        e[2] == 0,
+        e[3] == 0,
+    )
 }
 
 fn speed_after(code: u8, stored: u8) -> u8

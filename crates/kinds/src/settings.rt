@@ -1,7 +1,15 @@
 // What an element is set to, as a record and as the four bytes that the shelf stores.
 use crate::types::Kind;
 ghost use mathlib.Core.Path.{_≡_};
-ghost use Rattle.kinds.specs.Settings.{settingsWith, fanSettings, sensorSettings, settingsOf, fanBytes, sensorBytes, settingsBytes, secondNamed, fourthNamed, speedFormed, settingsFormed};
+ghost use Rattle.kinds.specs.declared.types.Kind.the-variants.{Cooling, Temperature};
+ghost use Rattle.kinds.specs.Settings.{settingsWith, fanSettings, sensorSettings, settingsOf, fanBytes, sensorBytes, settingsBytes, settingsFormed};
+
+// The bits of bytes 1 and 3 that a control element does not name; a sensor's names none in byte 3.
+pub const FAN_SECOND: u8 = 0x7f;
+
+pub const FAN_FOURTH: u8 = 0x98;
+
+pub const SENSOR_SECOND: u8 = 0x3f;
 
 pub struct Settings {
     pub prdfail: bool,
@@ -82,41 +90,28 @@ fn sensor_bytes(s: Settings) -> [u8; 4]
     ]
 }
 
-// Bytes 1 and 3 have no bit set that the type's control element does not name.
-pub fn second_named(kind: Kind, b: u8) -> bool
-    ensures { λ r. ⌜ r ≡ secondNamed kind b ⌝ }
-{
-    match kind {
-        Kind::Cooling => b & 0x7f == 0,
-        Kind::Temperature | Kind::Voltage | Kind::Current => b & 0x3f == 0,
-    }
-}
-
-pub fn fourth_named(kind: Kind, d: u8) -> bool
-    ensures { λ r. ⌜ r ≡ fourthNamed kind d ⌝ }
-{
-    match kind {
-        Kind::Cooling => d & 0x98 == 0,
-        Kind::Temperature | Kind::Voltage | Kind::Current => d == 0,
-    }
-}
-
-fn speed_formed(kind: Kind, e: [u8; 4]) -> bool
-    ensures { λ r. ⌜ r ≡ speedFormed kind e ⌝ }
-{
-    match kind {
-        Kind::Cooling => e[3] & 7 != 0,
-        Kind::Temperature | Kind::Voltage | Kind::Current => true,
-    }
-}
-
 // The four bytes are settings that the type may have.
 pub fn are_formed(kind: Kind, e: [u8; 4]) -> bool
     ensures { λ r. ⌜ r ≡ settingsFormed kind e ⌝ }
 {
+    match kind {
+        Kind::Cooling => fan_formed(e),
+        Kind::Temperature | Kind::Voltage | Kind::Current => sensor_formed(e),
+    }
+}
+
+fn fan_formed(e: [u8; 4]) -> bool
+    ensures { λ r. ⌜ r ≡ settingsFormed Cooling e ⌝ }
+{
     (e[0] & 0x8f == 0)
-        & second_named(kind, e[1])
+        & (e[1] & FAN_SECOND == 0)
         & (e[2] == 0)
-        & fourth_named(kind, e[3])
-        & speed_formed(kind, e)
+        & (e[3] & FAN_FOURTH == 0)
+        & (e[3] & 7 != 0)
+}
+
+fn sensor_formed(e: [u8; 4]) -> bool
+    ensures { λ r. ⌜ r ≡ settingsFormed Temperature e ⌝ }
+{
+    (e[0] & 0x8f == 0) & (e[1] & SENSOR_SECOND == 0) & (e[2] == 0) & (e[3] == 0)
 }

@@ -1,22 +1,29 @@
 -- The tests of a text, a type and an element, from what the calls say. Assumes nothing.
 use mathlib.Core.Path.{_≡_, refl, sym, _∙_}
 use mathlib.Core.Bool.{Bool, true, false, _&&_}
-use mathlib.Core.List.{List}
+use mathlib.Core.List.{List, [], _∷_}
 use Prim.Native.Nat.{ℕ, _+_, _<_, _≤_}
+use native.Mathlib.Omega.{arith}
 use lib.Dec.{eqb, leb}
 use lib.ListN.{getD}
-use borrow.Author.Tests.{lt-ltb, le-ltb, lt-leb, le-leb}
+use borrow.Author.Tests.{lt-ltb, le-ltb, lt-leb, le-leb, eq-eqb, ne-eqb, eqb-true, eqb-false}
 use Rattle.bits.specs.Choice.{allBelow}
 use Rattle.bits.specs.Places.{fourAt}
-use Rattle.bits.proofs.Logic.{below-cut}
-use Rattle.shelf.specs.Limits.{mostInType, mostText, typePlace, textPlace}
+use Rattle.bits.specs.Numbers.{big}
+use Rattle.bits.proofs.Logic.{by-case, and-true, below-cut}
+use Rattle.shelf.specs.Limits.{mostInType, mostText, typePlace, textPlace, elementPlace}
 use Rattle.kinds.specs.declared.types.Kind.{Kind}
 use Rattle.kinds.specs.Types.{served, readingAllowed, nominalAllowed}
 use Rattle.kinds.specs.Settings.{settingsFormed}
 use Rattle.verdicts.specs.Thresholds.{had, ordered}
 use Rattle.shelf.specs.Types.{typeCode, typeCount, textLength, kindAt}
-use Rattle.shelf.specs.Elements.{settingsAt, thresholdsAt, readingAt, nominalAt}
-use Rattle.opening.specs.Formed.{textByteFormed, textFormed, typeFormed, spareClear, elementFormed}
+use Rattle.shelf.specs.Elements.{settingsAt, thresholdsAt, readingAt, nominalAt, spareAt}
+use Rattle.opening.specs.Formed.{textByteFormed, textFormed, typeFormed, zeros, spareClear, fieldsFormed, elementFormed}
+
+and-swap : (a b : Bool) → a && b ≡ b && a
+and-swap true b = sym (and-true b)
+and-swap false true = refl
+and-swap false false = refl
 
 third-holds : (a b c : Bool) → (a && b) && c ≡ ((a && true) && b) && c
 third-holds true b c = refl
@@ -50,9 +57,39 @@ module _ (s : List ℕ) (t : ℕ) {n : ℕ} (q : n ≡ textLength s t) where
   unfolding typeFormed
   type-judged l p h u v = rw (le-leb (textLength s t) mostText (rw q at l), u, v, h, p) (third-holds (served (typeCode s t) && leb (typeCount s t) mostInType) (eqb (getD s (typePlace t + 3) 0) 0) (textFormed s t))
 
-pub judged : (s : List ℕ) (j : ℕ) {k : Kind} {e t : List ℕ} {r n : ℕ} {a b c d f g : Bool}
-    → k ≡ kindAt s j → t ≡ thresholdsAt s j → e ≡ settingsAt s j → a ≡ settingsFormed k e → b ≡ had k t → c ≡ ordered k t
-    → r ≡ readingAt s j → d ≡ readingAllowed k r → n ≡ nominalAt s j → f ≡ nominalAllowed k n → g ≡ spareClear s j
-    → ((((a && b) && c) && d) && f) && g ≡ elementFormed s j
+pub judged : (s : List ℕ) (j : ℕ) {k : Kind} {e t : List ℕ} {r n : ℕ} {a b : Bool}
+    → k ≡ kindAt s j → e ≡ settingsAt s j → t ≡ thresholdsAt s j → r ≡ readingAt s j → n ≡ nominalAt s j → a ≡ spareClear s j → b ≡ fieldsFormed k e t r n
+    → a && b ≡ elementFormed s j
 unfolding elementFormed
-judged s j hk ht he ha hb hc hr hd hn hf hg = rw (ha, hb, hc, hd, hf, hg, hk, ht, he, hr, hn)
+judged s j hk he ht hr hn ha hb =
+    rw (ha, hb, hk, he, ht, hr, hn) (and-swap (spareClear s j) (fieldsFormed (kindAt s j) (settingsAt s j) (thresholdsAt s j) (readingAt s j) (nominalAt s j)))
+
+pub all-formed : (k : Kind) (e t : List ℕ) (r n : ℕ) {a b c d f : Bool}
+    → a ≡ settingsFormed k e → b ≡ had k t → c ≡ ordered k t → d ≡ readingAllowed k r → f ≡ nominalAllowed k n
+    → (((a && b) && c) && d) && f ≡ fieldsFormed k e t r n
+all-formed k e t r n ha hb hc hd hf = rw (ha, hb, hc, hd, hf)
+
+-- four bytes that say 0 are zero
+pub zeros-said : (a b c d : ℕ) → eqb (big (a ∷ b ∷ c ∷ d ∷ [])) 0 ≡ zeros (a ∷ b ∷ c ∷ d ∷ [])
+zeros-said a b c d =
+    by-case (eqb a 0)
+    (λ p.
+    by-case (eqb b 0)
+    (λ q.
+    by-case (eqb c 0)
+    (λ r.
+    by-case (eqb d 0)
+    (λ s. rw (p, q, r, s) (eq-eqb (big (a ∷ b ∷ c ∷ d ∷ [])) 0 (omega (arith, eqb-true a 0 p, eqb-true b 0 q, eqb-true c 0 r, eqb-true d 0 s))))
+    (λ s. rw (p, q, r, s) (said d (λ e. omega (arith, e)) s)))
+    (λ r. rw (p, q, r) (said c (λ e. omega (arith, e)) r)))
+    (λ q. rw (p, q) (said b (λ e. omega (arith, e)) q)))
+    (λ p. rw p (said a (λ e. omega (arith, e)) p))
+  where
+    said : (x : ℕ) → (big (a ∷ b ∷ c ∷ d ∷ []) ≡ 0 → x ≡ 0) → eqb x 0 ≡ false → eqb (big (a ∷ b ∷ c ∷ d ∷ [])) 0 ≡ false
+    said x h p = ne-eqb (big (a ∷ b ∷ c ∷ d ∷ [])) 0 (λ e. eqb-false x 0 p (h e))
+
+pub spare-said : (s : List ℕ) (j : ℕ) {k n : ℕ} → k ≡ elementPlace j → n ≡ big (fourAt s (k + 12)) → eqb n 0 ≡ spareClear s j
+unfolding spareClear spareAt
+spare-said s j p q =
+    let k = elementPlace j + 12 in
+    rw (q, p) (zeros-said (getD s k 0) (getD s (k + 1) 0) (getD s (k + 2) 0) (getD s (k + 3) 0))

@@ -6,6 +6,7 @@ use Prim.Native.Nat.{ℕ, _+_}
 use lib.Dec.{eqb, leb, ltb}
 use lib.ListN.{length, getD}
 use Rattle.bits.specs.Choice.{pick, allBelow}
+use Rattle.kinds.specs.declared.types.Kind.{Kind}
 use Rattle.kinds.specs.Types.{served, readingAllowed, nominalAllowed}
 use Rattle.kinds.specs.Settings.{settingsFormed}
 use Rattle.verdicts.specs.Thresholds.{had, ordered}
@@ -56,6 +57,10 @@ typesFormed s n = allBelow (slotFormed s n) mostTypes
 
 unfoldable pub spareClear : List ℕ → ℕ → Bool
 spareClear s j = zeros (spareAt s j)
+
+-- settings, thresholds, reading and nominal that a type may have
+abbrev pub fieldsFormed : Kind → List ℕ → List ℕ → ℕ → ℕ → Bool
+fieldsFormed k e t r n = (((settingsFormed k e && had k t) && ordered k t) && readingAllowed k r) && nominalAllowed k n
 
 -- settings, thresholds, reading and nominal that the element's type may have
 unfoldable pub elementFormed : List ℕ → ℕ → Bool

@@ -10,9 +10,10 @@ ghost use mathlib.Core.Bool.{true};
 ghost use Prim.Native.Nat.{_≤_};
 ghost use lib.ListN.{length};
 ghost use Rattle.bits.specs.Choice.{allBelow};
+ghost use Rattle.kinds.specs.declared.types.Kind.the-variants.{Cooling, Temperature, Voltage, Current};
 ghost use Rattle.shelf.specs.Limits.{mostText, elementPlace, HasTypes, HasText, HasElement};
 ghost use Rattle.shelf.specs.Types.{textLength, kindAt};
-ghost use Rattle.opening.specs.Formed.{headFormed, textByteFormed, textFormed, typeFormed, typeEmpty, slotFormed, typesFormed, spareClear, elementFormed, elementsFormed, fronted, opened, configurationOpened};
+ghost use Rattle.opening.specs.Formed.{headFormed, textByteFormed, textFormed, typeFormed, typeEmpty, slotFormed, typesFormed, spareClear, fieldsFormed, elementFormed, elementsFormed, fronted, opened, configurationOpened};
 
 // How many types and elements a well-formed shelf has.
 pub struct Sizes {
@@ -185,13 +186,57 @@ fn element_formed(shelf: &[u8], kind: Kind, j: u16) -> bool
     requires { ⌜ kind ≡ kindAt (now shelf) j ⌝ }
     ensures { λ r. ⌜ r ≡ elementFormed (now (shelf .entry)) j ⌝ }
 {
+    let e = elements::settings_at(shelf, j);
     let t = elements::thresholds_at(shelf, j);
-    settings::are_formed(kind, elements::settings_at(shelf, j))
+    let reading = elements::reading_at(shelf, j);
+    let nominal = elements::nominal_at(shelf, j);
+    spare_clear(shelf, j) & fields_formed(kind, e, t, reading, nominal)
+}
+
+// One match on the type for all fields. Each arm is a function of its own, so that the compiler makes each of its type's rules alone.
+fn fields_formed(kind: Kind, e: [u8; 4], t: [u8; 4], reading: u16, nominal: u16) -> bool
+    ensures { λ r. ⌜ r ≡ fieldsFormed kind e t reading nominal ⌝ }
+{
+    match kind {
+        Kind::Cooling => fan_formed(e, t, reading, nominal),
+        Kind::Temperature => temperature_formed(e, t, reading, nominal),
+        Kind::Voltage => voltage_formed(e, t, reading, nominal),
+        Kind::Current => current_formed(e, t, reading, nominal),
+    }
+}
+
+fn fan_formed(e: [u8; 4], t: [u8; 4], reading: u16, nominal: u16) -> bool
+    ensures { λ r. ⌜ r ≡ fieldsFormed Cooling e t reading nominal ⌝ }
+{
+    formed_as(Kind::Cooling, e, t, reading, nominal)
+}
+
+fn temperature_formed(e: [u8; 4], t: [u8; 4], reading: u16, nominal: u16) -> bool
+    ensures { λ r. ⌜ r ≡ fieldsFormed Temperature e t reading nominal ⌝ }
+{
+    formed_as(Kind::Temperature, e, t, reading, nominal)
+}
+
+fn voltage_formed(e: [u8; 4], t: [u8; 4], reading: u16, nominal: u16) -> bool
+    ensures { λ r. ⌜ r ≡ fieldsFormed Voltage e t reading nominal ⌝ }
+{
+    formed_as(Kind::Voltage, e, t, reading, nominal)
+}
+
+fn current_formed(e: [u8; 4], t: [u8; 4], reading: u16, nominal: u16) -> bool
+    ensures { λ r. ⌜ r ≡ fieldsFormed Current e t reading nominal ⌝ }
+{
+    formed_as(Kind::Current, e, t, reading, nominal)
+}
+
+fn formed_as(kind: Kind, e: [u8; 4], t: [u8; 4], reading: u16, nominal: u16) -> bool
+    ensures { λ r. ⌜ r ≡ fieldsFormed kind e t reading nominal ⌝ }
+{
+    settings::are_formed(kind, e)
         & thresholds::are_had(kind, t)
         & thresholds::are_ordered(kind, t)
-        & kind.may_read(elements::reading_at(shelf, j))
-        & kind.may_have_nominal(elements::nominal_at(shelf, j))
-        & spare_clear(shelf, j)
+        & kind.may_read(reading)
+        & kind.may_have_nominal(nominal)
 }
 
 // The last four bytes of an element are zero.
@@ -199,8 +244,7 @@ fn spare_clear(shelf: &[u8], j: u16) -> bool
     requires { ⌜ HasElement (now shelf) j ⌝ }
     ensures { λ r. ⌜ r ≡ spareClear (now (shelf .entry)) j ⌝ }
 {
-    let e = bits::four_at(shelf, limits::element_place(j) + 12);
-    (e[0] == 0) & (e[1] == 0) & (e[2] == 0) & (e[3] == 0)
+    bits::big32_at(shelf, limits::element_place(j) + 12) == 0
 }
 
 fn elements_formed(shelf: &[u8], n: u16) -> bool

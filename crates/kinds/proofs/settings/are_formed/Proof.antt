@@ -1,49 +1,29 @@
 -- `kinds::settings::are_formed` meets its contract. Assumes nothing.
-use mathlib.Core.Path.{refl}
+use mathlib.Core.Path.{_≡_, sym, ap, _∙_}
 use mathlib.Core.List.{[], _∷_}
-use lib.ListN.{getD}
-use mir.Val.{Fits}
-use mir.Syntax.{w8}
-use Rattle.bits.proofs.Halves.{mask}
-use Rattle.kinds.specs.Settings.{settingsFormed}
+use Rattle.kinds.specs.declared.types.Kind.{Kind}
+use Rattle.kinds.specs.Settings.{secondNamed, fourthNamed, speedFormed, settingsFormed}
+use Rattle.kinds.proofs.Arms.{arms}
 use borrow.Author.Needs.{needs}
 use Rattle.kinds.proofs.settings.are_formed.Statement.{statement}
 use Rattle.kinds.proofs.settings.are_formed.Tie as tie
 
-array-read-result : tie.Need-array-read-result
-array-read-result c = search needs
+enum-told : tie.Need-enum-told
+enum-told c = search needs
 
-array-read-second-named : tie.Need-array-read-second-named
-array-read-second-named c = search needs
+fan-formed-requires : tie.Need-fan-formed-requires
+fan-formed-requires c κs = search needs
 
-second-named-requires : tie.Need-second-named-requires
-second-named-requires c κs = search needs
-
-array-read-result-2 : tie.Need-array-read-result-2
-array-read-result-2 c = search needs
-
-array-read-fourth-named : tie.Need-array-read-fourth-named
-array-read-fourth-named c = search needs
-
-fourth-named-requires : tie.Need-fourth-named-requires
-fourth-named-requires c κs = search needs
-
-speed-formed-requires : tie.Need-speed-formed-requires
-speed-formed-requires c κs = search needs
+sensor-formed-requires : tie.Need-sensor-formed-requires
+sensor-formed-requires c κs = search needs
 
 returns : tie.Need-returns
-unfolding settingsFormed
-returns c = let s = c .before .before .before .args in let h0 : Fits w8 (getD (s .t2) 0 0) = search needs in rw (mask 143 (6 ∷ 5 ∷ 4 ∷ []) refl (getD (s .t2) 0 0) h0, c .before .before .second-named .ensures, c .before .fourth-named .ensures, c .speed-formed .ensures)
+returns c = c .fan-formed .ensures ∙ sym (ap (λ (k : Kind). settingsFormed k (c .before .before .before .args .e)) (c .before .enum-told .given .1))
+
+returns-2 : tie.Need-returns-2
+unfolding settingsFormed secondNamed fourthNamed speedFormed
+returns-2 c = let s = c .before .before .args in let e = c .sensor-formed .ensures in arms (1 ∷ 2 ∷ 3 ∷ []) (λ k. c .sensor-formed .result ≡ settingsFormed k (s .e)) tt e e e (s .kind) (c .before .match .keys2)
 
 pub are-formed-spec : {M : Type 1} → statement M
 are-formed-spec =
-    tie.close
-    (tie.spec
-    array-read-result
-    array-read-second-named
-    second-named-requires
-    array-read-result-2
-    array-read-fourth-named
-    fourth-named-requires
-    speed-formed-requires
-    returns)
+    tie.close (tie.spec enum-told fan-formed-requires sensor-formed-requires returns returns-2)

@@ -1,6 +1,6 @@
 -- Laws of tests: two that hold together, one at every number below a bound, two that agree on every byte. Assumes nothing.
 use mathlib.Core.Path.{_≡_, refl, sym, ap, ap₂, _∙_}
-use mathlib.Core.Bool.{Bool, true, false, not, _&&_}
+use mathlib.Core.Bool.{Bool, true, false, not, _&&_, and-false}
 use mathlib.Core.Logic.{⊎-elim}
 use Prim.Native.Nat.{ℕ, zero, suc, _+_, _<_, _≤_}
 use native.Mathlib.Nat.{not-suc-le-zero, le-of-suc-le-suc, eq-or-lt-of-le}
@@ -35,10 +35,6 @@ pub and-right : (a b : Bool) → a && b ≡ true → b ≡ true
 and-right true b t = t
 and-right false b t = never (sym t)
 
-pub and-true : (a : Bool) → a && true ≡ a
-and-true true = refl
-and-true false = refl
-
 pub and-both : {a b : Bool} → a ≡ true → b ≡ true → a && b ≡ true
 and-both p q = rw (p, q)
 
@@ -53,10 +49,6 @@ pub and-five : (a b c d e : Bool) → (((a && b) && c) && d) && e ≡ true → (
 and-five a b c d e h =
     let f = and-four a b c d (and-left (((a && b) && c) && d) e h) in
     (f .0, f .1, f .2, f .3, and-right (((a && b) && c) && d) e h)
-
-and-false : (a : Bool) → a && false ≡ false
-and-false true = refl
-and-false false = refl
 
 -- what a test says at each number below n, once it has passed
 pub below-at : (f : ℕ → Bool) (n : ℕ) → allBelow f n ≡ true → (k : ℕ) → k < n → f k ≡ true

@@ -1,6 +1,6 @@
 -- The tests of a text, a type and an element, from what the calls say. Assumes nothing.
-use mathlib.Core.Path.{_≡_, refl, sym, _∙_}
-use mathlib.Core.Bool.{Bool, true, false, _&&_}
+use mathlib.Core.Path.{_≡_, refl, sym, ap, _∙_}
+use mathlib.Core.Bool.{Bool, true, false, _&&_, and-true, and-false}
 use mathlib.Core.List.{List, [], _∷_}
 use Prim.Native.Nat.{ℕ, _+_, _<_, _≤_}
 use native.Mathlib.Omega.{arith}
@@ -10,7 +10,7 @@ use borrow.Author.Tests.{lt-ltb, le-ltb, lt-leb, le-leb, eq-eqb, ne-eqb, eqb-tru
 use Rattle.bits.specs.Choice.{allBelow}
 use Rattle.bits.specs.Places.{fourAt}
 use Rattle.bits.specs.Numbers.{big}
-use Rattle.bits.proofs.Logic.{by-case, and-true, below-cut}
+use Rattle.bits.proofs.Logic.{by-case, below-cut}
 use Rattle.shelf.specs.Limits.{mostInType, mostText, typePlace, textPlace, elementPlace}
 use Rattle.kinds.specs.declared.types.Kind.{Kind}
 use Rattle.kinds.specs.Types.{served, readingAllowed, nominalAllowed}
@@ -19,11 +19,6 @@ use Rattle.verdicts.specs.Thresholds.{had, ordered}
 use Rattle.shelf.specs.Types.{typeCode, typeCount, textLength, kindAt}
 use Rattle.shelf.specs.Elements.{settingsAt, thresholdsAt, readingAt, nominalAt, spareAt}
 use Rattle.opening.specs.Formed.{textByteFormed, textFormed, typeFormed, zeros, spareClear, fieldsFormed, elementFormed}
-
-and-swap : (a b : Bool) → a && b ≡ b && a
-and-swap true b = sym (and-true b)
-and-swap false true = refl
-and-swap false false = refl
 
 third-holds : (a b c : Bool) → (a && b) && c ≡ ((a && true) && b) && c
 third-holds true b c = refl
@@ -57,12 +52,18 @@ module _ (s : List ℕ) (t : ℕ) {n : ℕ} (q : n ≡ textLength s t) where
   unfolding typeFormed
   type-judged l p h u v = rw (le-leb (textLength s t) mostText (rw q at l), u, v, h, p) (third-holds (served (typeCode s t) && leb (typeCount s t) mostInType) (eqb (getD s (typePlace t + 3) 0) 0) (textFormed s t))
 
-pub judged : (s : List ℕ) (j : ℕ) {k : Kind} {e t : List ℕ} {r n : ℕ} {a b : Bool}
-    → k ≡ kindAt s j → e ≡ settingsAt s j → t ≡ thresholdsAt s j → r ≡ readingAt s j → n ≡ nominalAt s j → a ≡ spareClear s j → b ≡ fieldsFormed k e t r n
-    → a && b ≡ elementFormed s j
+pub not-spare : (s : List ℕ) (j : ℕ) {a : Bool} → a ≡ spareClear s j → a ≡ false → false ≡ elementFormed s j
 unfolding elementFormed
-judged s j hk he ht hr hn ha hb =
-    rw (ha, hb, hk, he, ht, hr, hn) (and-swap (spareClear s j) (fieldsFormed (kindAt s j) (settingsAt s j) (thresholdsAt s j) (readingAt s j) (nominalAt s j)))
+not-spare s j ha h =
+    let f = fieldsFormed (kindAt s j) (settingsAt s j) (thresholdsAt s j) (readingAt s j) (nominalAt s j) in
+    sym (ap (λ (b : Bool). f && b) (sym ha ∙ h) ∙ and-false f)
+
+pub judged : (s : List ℕ) (j : ℕ) {k : Kind} {e t : List ℕ} {r n : ℕ} {a b : Bool}
+    → k ≡ kindAt s j → a ≡ spareClear s j → a ≡ true → e ≡ settingsAt s j → t ≡ thresholdsAt s j → r ≡ readingAt s j → n ≡ nominalAt s j
+    → b ≡ fieldsFormed k e t r n → b ≡ elementFormed s j
+unfolding elementFormed
+judged s j hk ha h he ht hr hn hb =
+    rw (← ha, h, hb, hk, he, ht, hr, hn) (sym (and-true (fieldsFormed (kindAt s j) (settingsAt s j) (thresholdsAt s j) (readingAt s j) (nominalAt s j))))
 
 pub all-formed : (k : Kind) (e t : List ℕ) (r n : ℕ) {a b c d f : Bool}
     → a ≡ settingsFormed k e → b ≡ had k t → c ≡ ordered k t → d ≡ readingAllowed k r → f ≡ nominalAllowed k n

@@ -186,11 +186,14 @@ fn element_formed(shelf: &[u8], kind: Kind, j: u16) -> bool
     requires { ⌜ kind ≡ kindAt (now shelf) j ⌝ }
     ensures { λ r. ⌜ r ≡ elementFormed (now (shelf .entry)) j ⌝ }
 {
+    if !spare_clear(shelf, j) {
+        return false;
+    }
     let e = elements::settings_at(shelf, j);
     let t = elements::thresholds_at(shelf, j);
     let reading = elements::reading_at(shelf, j);
     let nominal = elements::nominal_at(shelf, j);
-    spare_clear(shelf, j) & fields_formed(kind, e, t, reading, nominal)
+    fields_formed(kind, e, t, reading, nominal)
 }
 
 // One match on the type for all fields. Each arm is a function of its own, so that the compiler makes each of its type's rules alone.

@@ -4,7 +4,7 @@ use mathlib.Core.List.{[], _∷_}
 use lib.ListN.{getD}
 use mir.Val.{Fits}
 use mir.Syntax.{w8}
-use Rattle.bits.proofs.Logic.{and-true}
+use mathlib.Core.Bool.{and-true}
 use Rattle.bits.proofs.Halves.{mask}
 use Rattle.kinds.specs.Settings.{secondNamed, fourthNamed, speedFormed, settingsFormed}
 use borrow.Author.Needs.{needs}

@@ -1,12 +1,12 @@
 -- A byte's halves and bits: what the code's shifts and masks say, in the words of the specification. Assumes nothing.
-use mathlib.Core.Path.{_≡_, refl, sym, ap, _∙_}
+use mathlib.Core.Path.{_≡_, refl, ap, _∙_}
 use mathlib.Core.Bool.{Bool, true, false}
 use mathlib.Core.List.{List}
 use Prim.Native.Nat.{ℕ, _*_, _/_, _%_, _^_, _<_, _≤_}
 use native.Mathlib.Omega.{arith}
 use lib.Dec.{eqb}
 use lib.Bits.{bitAnd, bitOr, and-mask, or-shifted}
-use borrow.Author.Tests.{eq-eqb, ne-eqb, eqb-true}
+use borrow.Author.Tests.{ne-eqb, eqb-true}
 use mir.Val.{Fits, boolByte}
 use mir.Syntax.{w8}
 use Rattle.bits.specs.Choice.{allBelow}
@@ -26,13 +26,6 @@ and7 n = and-mask n 3
 
 pub and15 : (n : ℕ) → bitAnd n 15 ≡ n % 16
 and15 n = and-mask n 4
-
--- bit k, as a shift by k and a mask of one bit test it
-pub bit-yes : (k b : ℕ) → bitAnd (b / 2 ^ k) 1 ≡ 1 → bit k b ≡ true
-bit-yes k b e = eq-eqb _ _ (sym (and1 (b / 2 ^ k)) ∙ e)
-
-pub bit-no : (k b : ℕ) → (bitAnd (b / 2 ^ k) 1 ≡ 1 → ⊥) → bit k b ≡ false
-bit-no k b n = ne-eqb _ _ (λ e. n (and1 (b / 2 ^ k) ∙ e))
 
 pub or4 : (a b c d : Bool)
     → bitOr (bitOr (bitOr (boolByte a * 8 % 256) (boolByte b * 4 % 256)) (boolByte c * 2 % 256)) (boolByte d) ≡ nibble a b c d

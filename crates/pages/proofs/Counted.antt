@@ -1,13 +1,12 @@
 -- How many slots stand before a type, one type after the other. Assumes nothing.
 use mathlib.Core.Path.{_≡_}
 use mathlib.Core.List.{List}
-use Prim.Native.Nat.{ℕ, zero, suc, _+_, _*_, _<_, _≤_}
-use native.Mathlib.Numerals.{add-one}
+use Prim.Native.Nat.{ℕ, _+_, _<_}
 use native.Mathlib.Omega.{arith}
 use lib.ListN.{getD}
 use mir.Val.{Fits}
 use mir.Syntax.{w8}
-use Rattle.shelf.specs.Types.{typesOf, typeCount, before, elementsOf}
+use Rattle.shelf.specs.Types.{typesOf, typeCount, elementsOf}
 use Rattle.shelf.proofs.Counts.{before-none, before-next, before-small}
 use Rattle.shelf.specs.Limits.{mostTypes}
 use Rattle.pages.specs.Slots.{slotsOf, startOf}

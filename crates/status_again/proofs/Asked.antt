@@ -16,9 +16,7 @@ use Rattle.refusals.specs.declared.Refusal.the-variants.{ShelfNotWellFormed, No
 use Rattle.refusals.specs.declared.Written.{Written}
 use Rattle.refusals.specs.Outcomes.{fitted, writes}
 use Rattle.opening.specs.Formed.{configurationFormed}
-use Rattle.refusals.specs.declared.Answer.the-variants as answer
 use Rattle.refusals.specs.declared.Written.the-variants as written
-use Rattle.pages.specs.Header as pages
 
 -- one entry's test
 module _ (r : List ℕ) (i : ℕ) (at : Slot) {f t : Bool} {x : Shown} (u : f ≡ flagsFormed r i) (h : x ≡ entryAt r i) where

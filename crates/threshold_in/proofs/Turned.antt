@@ -6,7 +6,7 @@ use Rattle.bits.specs.Choice.{pick}
 use Rattle.shelf.specs.Elements.{thresholdsAt}
 use Rattle.pages.specs.declared.slots.Slot.{Slot}
 use Rattle.pages.specs.declared.slots.SlotRun.{SlotRun}
-use Rattle.pages.specs.Slots.{slotAt, slotRun, slotIn}
+use Rattle.pages.specs.Slots.{slotRun, slotIn}
 use Rattle.pages.proofs.Walked.{slot-walked}
 use Rattle.threshold_in.specs.Page.{thresholdRow}
 

@@ -19,8 +19,6 @@ use Rattle.verdicts.specs.Thresholds.{had, ordered}
 use Rattle.refusals.specs.declared.Answer.the-variants.{Accepted}
 use Rattle.refusals.proofs.Passed.{held}
 use Rattle.refusals.specs.declared.Answer.the-variants as answer
-use Rattle.refusals.specs.declared.Written.the-variants as written
-use Rattle.pages.specs.Header as pages
 
 -- the tests of all rows, from what one pass finds
 module _ (c b : List ℕ) (k n : ℕ) where

@@ -1,5 +1,4 @@
 -- `shelf::types::run_with` meets its contract. Assumes nothing.
-use mathlib.Core.Path.{_∙_}
 use denote.Ref.{now}
 use borrow.Author.Needs.{needs}
 use Rattle.shelf.proofs.Runs.{run-made}

@@ -1,6 +1,5 @@
 -- `shelfctl::settings::put` is safe and ends.
 use mathlib.Core.Path.{sym, _∙_}
-use native.Mathlib.Omega.{arith}
 use denote.Ref.{now}
 use borrow.Author.Needs.{needs}
 use Rattle.opening.proofs.Stored.{opened-there}

@@ -3,7 +3,6 @@ use mathlib.Core.Path.{_≡_, refl}
 use Prim.Native.Nat.{_-_, _≤_}
 use native.Mathlib.Omega.{arith}
 use denote.Ref.{now}
-use borrow.Author.Needs.{needs}
 use Rattle.opening.proofs.Stored.{room}
 use Rattle.pages.proofs.Bounds.{shelf-there}
 use Rattle.shelf.specs.Types.{carried}

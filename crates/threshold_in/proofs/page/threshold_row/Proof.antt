@@ -2,7 +2,6 @@
 use mathlib.Core.Path.{sym, _∙_}
 use Rattle.bits.proofs.Logic.{pick-yes, pick-no}
 use native.Mathlib.Omega.{arith}
-use borrow.Author.Needs.{needs}
 use Rattle.threshold_in.proofs.page.threshold_row.Statement.{statement}
 use Rattle.threshold_in.proofs.page.threshold_row.Tie as tie
 

@@ -1,7 +1,7 @@
 pub mod Logic
 pub mod Halves
 pub mod Widths
-pub mod Placed
-pub mod Fours
+pub mod FourPut
+pub mod FoursPut
 pub mod Offence
 pub mod Rows

@@ -1,1 +1,1 @@
-pub mod Proved
+pub mod Cases

@@ -5,18 +5,18 @@ use mathlib.Core.List.{List, [], _∷_, _++_}
 use Prim.Native.Nat.{ℕ}
 use lib.ListN.{replicate}
 use Rattle.bits.specs.Bits.{num}
-use Rattle.kinds.specs.declared.types.Kind.{Kind}
-use Rattle.kinds.specs.declared.types.Kind.the-variants.{Cooling, Temperature, Voltage, Current}
-use Rattle.verdicts.specs.declared.verdict.Verdict.{Verdict}
-use Rattle.kinds.specs.Settings.{settingsOf}
-use Rattle.verdicts.specs.Verdict.{verdictOf}
-use Rattle.shown.specs.Status.{shownBy, statusBytes}
-use Rattle.opening.specs.Formed.{wellFormed}
-use Rattle.status.specs.Page.{statusPage}
+use Rattle.element.specs.declared.types.Kind.{Kind}
+use Rattle.element.specs.declared.types.Kind.the-variants.{Cooling, Temperature, Voltage, Current}
+use Rattle.element_verdict.specs.declared.verdict.Verdict.{Verdict}
+use Rattle.element.specs.Settings.{settingsOf}
+use Rattle.element_verdict.specs.Verdict.{verdictOf}
+use Rattle.element_status.specs.Status.{shownBy, statusBytes}
+use Rattle.shelf_formed.specs.Formed.{wellFormed}
+use Rattle.status_page.specs.Page.{statusPage}
 use Rattle.refusals.specs.declared.Refusal.the-variants.{Unreachable}
-use Rattle.builder.specs.declared.built.Built.the-variants.{Refused}
-use Rattle.builder.specs.Outcome.{builtOf, leftBy}
-use Rattle.builder.specs.Promise.{Promised}
+use Rattle.build_page.specs.declared.built.Built.the-variants.{Refused}
+use Rattle.build_page.specs.Outcome.{builtOf, leftBy}
+use Rattle.build_page.specs.Promise.{Promised}
 
 pub data Case : Type 0 where
   -- an element of the type with these settings, reading, nominal and thresholds shows these bytes

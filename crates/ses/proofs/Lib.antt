@@ -1,1 +1,1 @@
-pub mod AsC
+pub mod ForC

@@ -3,26 +3,26 @@ use shelf::limits;
 ghost use mathlib.Core.Path.{_≡_};
 ghost use Rattle.refusals.specs.Numbers.{answerNumber, writtenNumber, bytesWritten};
 ghost use Rattle.refusals.specs.Outcomes.{outAfter, recordAfter};
-ghost use Rattle.pages.specs.Header.{shelfAsked};
-ghost use Rattle.configuration.specs.Page.{configurationPage};
-ghost use Rattle.configuration.specs.Read.{configurationRead};
-ghost use Rattle.configuration.specs.Told.{configurationOf};
-ghost use Rattle.status.specs.Page.{statusPage};
-ghost use Rattle.status.specs.Read.{statusRead, statusRecord};
-ghost use Rattle.status_again.specs.Again as statusAgain;
-ghost use Rattle.threshold_in.specs.Page.{thresholdPage};
-ghost use Rattle.threshold_in.specs.Read.{thresholdRead, thresholdRecord};
-ghost use Rattle.threshold_in.specs.Again as thresholdsAgain;
+ghost use Rattle.page.specs.Header.{shelfTested};
+ghost use Rattle.configuration_page.specs.Page.{configurationPage};
+ghost use Rattle.configuration_page.specs.Read.{configurationRead};
+ghost use Rattle.configuration_page.specs.Configuration.{configurationOf};
+ghost use Rattle.status_page.specs.Page.{statusPage};
+ghost use Rattle.status_page.specs.Read.{statusRead, statusRecord};
+ghost use Rattle.status_rewritten.specs.Rewritten as statusAgain;
+ghost use Rattle.threshold_page_in.specs.Page.{thresholdPage};
+ghost use Rattle.threshold_page_in.specs.Read.{thresholdRead, thresholdRecord};
+ghost use Rattle.threshold_page_in.specs.Rewritten as thresholdsAgain;
 ghost use Rattle.bits.specs.Choice.{pick};
-ghost use Rattle.control.specs.Asked as control;
-ghost use Rattle.control.specs.Brought.{broughtTo, withSettings};
-ghost use Rattle.threshold_out.specs.Asked as thresholds;
-ghost use Rattle.threshold_out.specs.Taken.{takenFrom, withThresholds};
+ghost use Rattle.control_page.specs.Tests as control;
+ghost use Rattle.control_page.specs.Brought.{broughtTo, withSettings};
+ghost use Rattle.threshold_page_out.specs.Tests as thresholds;
+ghost use Rattle.threshold_page_out.specs.Taken.{takenFrom, withThresholds};
 ghost use Rattle.ses.specs.Calls.{configurationWritten, statusWritten, thresholdsWritten, configurationRewritten, statusRewritten, thresholdsRewritten, BuiltForC};
 
 #[no_mangle]
 pub extern "C" fn ses_check(shelf: &[u8]) -> u8
-    ensures { λ r. ⌜ r ≡ answerNumber (shelfAsked (now (shelf .entry))) ⌝ }
+    ensures { λ r. ⌜ r ≡ answerNumber (shelfTested (now (shelf .entry))) ⌝ }
 {
     crate::check(shelf).number()
 }
@@ -87,7 +87,7 @@ pub extern "C" fn ses_read_status(
 pub extern "C" fn ses_read_thresholds(
     configuration: &[u8],
     page: &[u8],
-    fields: &mut [u8; threshold_in::reading::LENGTH],
+    fields: &mut [u8; threshold_page_in::reading::LENGTH],
 ) -> u8
     ensures { λ r. ⌜ r ≡ answerNumber (thresholdRead (now (configuration .entry)) (now (page .entry))) ⌝ }
     ensures { λ _. ⌜ now (fields .exit) ≡ recordAfter (thresholdRead (now (configuration .entry)) (now (page .entry))) (thresholdRecord (now (configuration .entry)) (now (page .entry))) (now (fields .entry)) ⌝ }
@@ -129,7 +129,7 @@ pub extern "C" fn ses_rewrite_status(
 #[no_mangle]
 pub extern "C" fn ses_rewrite_thresholds(
     configuration: &[u8],
-    fields: &[u8; threshold_in::reading::LENGTH],
+    fields: &[u8; threshold_page_in::reading::LENGTH],
     out: &mut [u8],
     written: &mut u32,
 ) -> u8
@@ -144,7 +144,7 @@ pub extern "C" fn ses_rewrite_thresholds(
 
 #[no_mangle]
 pub extern "C" fn ses_apply_control(shelf: &mut [u8], page: &[u8]) -> u8
-    ensures { λ r. ⌜ r ≡ answerNumber (control.controlAsked (now (shelf .entry)) (now (page .entry))) ⌝ }
+    ensures { λ r. ⌜ r ≡ answerNumber (control.controlTested (now (shelf .entry)) (now (page .entry))) ⌝ }
     ensures { λ _. ⌜ now (shelf .exit) ≡ pick (control.valid (now (shelf .entry)) (now (page .entry))) (withSettings (now (shelf .entry)) (broughtTo (now (shelf .entry)) (now (page .entry)))) (now (shelf .entry)) ⌝ }
 {
     crate::apply_control(shelf, page).number()
@@ -152,7 +152,7 @@ pub extern "C" fn ses_apply_control(shelf: &mut [u8], page: &[u8]) -> u8
 
 #[no_mangle]
 pub extern "C" fn ses_apply_thresholds(shelf: &mut [u8], page: &[u8]) -> u8
-    ensures { λ r. ⌜ r ≡ answerNumber (thresholds.thresholdsAsked (now (shelf .entry)) (now (page .entry))) ⌝ }
+    ensures { λ r. ⌜ r ≡ answerNumber (thresholds.thresholdsTested (now (shelf .entry)) (now (page .entry))) ⌝ }
     ensures { λ _. ⌜ now (shelf .exit) ≡ pick (thresholds.valid (now (shelf .entry)) (now (page .entry))) (withThresholds (now (shelf .entry)) (takenFrom (now (shelf .entry)) (now (page .entry)))) (now (shelf .entry)) ⌝ }
 {
     crate::apply_thresholds(shelf, page).number()

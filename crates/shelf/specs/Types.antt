@@ -5,8 +5,8 @@ use Prim.Native.Nat.{ℕ, zero, suc, _+_}
 use lib.Dec.{ltb}
 use lib.ListN.{getD}
 use Rattle.bits.specs.Choice.{firstBelow, sumBelow}
-use Rattle.kinds.specs.declared.types.Kind.{Kind}
-use Rattle.kinds.specs.Types.{kindOf}
+use Rattle.element.specs.declared.types.Kind.{Kind}
+use Rattle.element.specs.Types.{kindOf}
 use Rattle.shelf.specs.declared.types.Run.{Run}
 use Rattle.shelf.specs.Limits.{mostTypes, typePlace}
 

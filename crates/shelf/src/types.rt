@@ -1,6 +1,6 @@
 // The types of a shelf: type t by its number, and the type of one element after the other.
 use crate::limits;
-use kinds::types::Kind;
+use element::types::Kind;
 ghost use mathlib.Core.Path.{_≡_};
 ghost use mathlib.Core.Bool.{true};
 ghost use Prim.Native.Nat.{_≤_};

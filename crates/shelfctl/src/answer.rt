@@ -5,11 +5,11 @@ use refusals::Answer;
 pub fn tell(answer: Answer, accepted: &[u8]) -> bool {
     match answer {
         Answer::Accepted => {
-            say::text(accepted);
+            tool_print::text(accepted);
             true
         }
         Answer::Refused(r) => {
-            say::refusal::tell(r);
+            tool_print::refusal::tell(r);
             false
         }
     }

@@ -10,7 +10,7 @@ pub enum Act {
 // The answer and, if the page is accepted, what the shelf holds afterwards.
 pub fn tell(act: Act, shelf: &mut [u8], page: &[u8]) {
     if tell_answer(act, shelf, page) {
-        showing::contents(shelf);
+        tool_show::contents(shelf);
     }
 }
 

@@ -1,5 +1,5 @@
 // The control page for a wanted list.
-use builder::built::Built;
+use build_page::built::Built;
 use shelf::limits;
 
 const MOST_BYTES: usize = 8 + 4 * (limits::MOST_TYPES + limits::MOST_ELEMENTS) as usize;
@@ -15,15 +15,15 @@ pub fn tell_into(shelf: &[u8], wanted: &[u8], page: &mut [u8]) {
     match built {
         Built::Page { bytes, selects } => {
             say_head(bytes, selects);
-            say::hex_lines(page, bytes);
+            tool_print::hex_lines(page, bytes);
         }
-        Built::Refused(r) => say::refusal::tell(r),
+        Built::Refused(r) => tool_print::refusal::tell(r),
     }
 }
 
 fn say_head(bytes: u32, selects: u32) {
-    say::text(b"control page");
-    say::count(bytes as u64, b" byte");
-    say::count(selects as u64, b" SELECT");
-    say::text(b"\n");
+    tool_print::text(b"control page");
+    tool_print::count(bytes as u64, b" byte");
+    tool_print::count(selects as u64, b" SELECT");
+    tool_print::text(b"\n");
 }

@@ -10,7 +10,7 @@ const ELEMENT_SIZE: usize = 16;
 
 pub fn tell(before: &[u8; builtin::LENGTH], after: &[u8; builtin::LENGTH]) {
     tell_elements(before, after);
-    say::text(b"all else");
+    tool_print::text(b"all else");
     say_changed(changed(before, after, 0, FIRST_ELEMENT));
 }
 
@@ -26,7 +26,7 @@ fn tell_element(before: &[u8; builtin::LENGTH], after: &[u8; builtin::LENGTH], j
     requires { ⌜ j < 10 ⌝ }
 {
     let at = FIRST_ELEMENT + ELEMENT_SIZE * j as usize;
-    say::labelled(b"element ", j as u64);
+    tool_print::labelled(b"element ", j as u64);
     say_changed(changed(before, after, at, at + ELEMENT_SIZE));
 }
 
@@ -52,11 +52,11 @@ fn changed(
 
 fn say_changed(n: u32) {
     match n {
-        0 => say::text(b": kept every byte\n"),
-        1 => say::text(b": 1 byte changed\n"),
+        0 => tool_print::text(b": kept every byte\n"),
+        1 => tool_print::text(b": 1 byte changed\n"),
         _ => {
-            say::labelled(b": ", n as u64);
-            say::text(b" bytes changed\n");
+            tool_print::labelled(b": ", n as u64);
+            tool_print::text(b" bytes changed\n");
         }
     }
 }

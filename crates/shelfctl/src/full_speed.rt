@@ -4,8 +4,8 @@ use crate::applying::Act;
 use crate::building;
 use crate::builtin;
 use crate::changes;
-use crate::page;
-use crate::page::Page;
+use crate::pages;
+use crate::pages::Page;
 use crate::settings;
 
 // What is wanted and the page for it, between the status before and after; then the fans in words, and which bytes of
@@ -13,18 +13,18 @@ use crate::settings;
 pub fn show() {
     let mut shelf = builtin::shelf();
     let before = shelf;
-    page::tell_headed(b"status page before", Page::Status, &shelf);
+    pages::tell_headed(b"status page before", Page::Status, &shelf);
     bring(&mut shelf);
-    page::tell_headed(b"status page after", Page::Status, &shelf);
-    showing::first_type(&shelf);
+    pages::tell_headed(b"status page after", Page::Status, &shelf);
+    tool_show::first_type(&shelf);
     changes::tell(&before, &shelf);
 }
 
 fn bring(shelf: &mut [u8]) {
     let wanted = wanted_list(shelf);
     let n = builtin::WANTED_LENGTH as u32;
-    page::say_head(b"wanted settings: element 0 to full speed", n);
-    say::hex_lines(&wanted, n);
+    pages::say_head(b"wanted settings: element 0 to full speed", n);
+    tool_print::hex_lines(&wanted, n);
     let mut page = [0u8; builtin::CONTROL_LENGTH];
     building::tell_into(shelf, &wanted, &mut page);
     applying::tell_answer(Act::Control, shelf, &page);

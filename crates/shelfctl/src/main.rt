@@ -9,11 +9,11 @@ mod builtin;
 mod changes;
 mod files;
 mod full_speed;
-mod page;
+mod pages;
 mod settings;
 
 use crate::applying::Act;
-use crate::page::Page;
+use crate::pages::Page;
 use libc::STDERR_FILENO;
 
 // Which argument PAGE or WANTED is, of a command that takes one.
@@ -87,7 +87,7 @@ fn first_is(word: &[u8]) -> bool {
 fn show_builtin() {
     let shelf = builtin::shelf();
     tell_contents(&shelf);
-    page::tell_all(&shelf);
+    pages::tell_all(&shelf);
     full_speed::show();
 }
 
@@ -138,7 +138,7 @@ fn tell(command: Command, shelf: &mut [u8]) {
         Command::Check => {
             tell_checked(shelf);
         }
-        Command::Page(page) => page::tell(page, shelf),
+        Command::Page(page) => pages::tell(page, shelf),
         Command::Settings => settings::tell(shelf),
         Command::Build => build(shelf),
         Command::Apply(act) => apply(act, shelf),
@@ -147,7 +147,7 @@ fn tell(command: Command, shelf: &mut [u8]) {
 
 fn tell_contents(shelf: &[u8]) {
     if tell_checked(shelf) {
-        showing::contents(shelf);
+        tool_show::contents(shelf);
     }
 }
 

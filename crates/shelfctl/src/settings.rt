@@ -1,8 +1,8 @@
 // The settings that a shelf stores, in the form of a wanted list: four bytes for each element.
 use crate::answer;
-use opening::Opened;
 use shelf::elements;
 use shelf::limits;
+use shelf_formed::Opened;
 ghost use Prim.Native.Nat.{_*_, _≤_};
 ghost use lib.ListN.{length};
 ghost use Rattle.shelf.specs.Limits.{elementPlace};
@@ -20,12 +20,12 @@ pub fn tell(shelf: &[u8]) {
 fn show(shelf: &[u8]) {
     let mut list = [0u8; MOST_BYTES];
     let n = put(shelf, &mut list);
-    say::hex_lines(&list, 4 * n as u32);
+    tool_print::hex_lines(&list, 4 * n as u32);
 }
 
 // Puts the records of a well-formed shelf, where there is room for all, and tells how many.
 pub fn put(shelf: &[u8], list: &mut [u8]) -> u16 {
-    let opened = opening::open_shelf(shelf);
+    let opened = shelf_formed::open_shelf(shelf);
     let Opened::Shelf(sizes) = opened else {
         return 0;
     };

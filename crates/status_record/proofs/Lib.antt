@@ -1,2 +1,2 @@
-pub mod Turned
-pub mod Whole
+pub mod EntryRows
+pub mod WholeRecord

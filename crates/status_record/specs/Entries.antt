@@ -8,8 +8,8 @@ use Rattle.bits.specs.Bits.{num}
 use Rattle.bits.specs.Numbers.{big, bytes}
 use Rattle.bits.specs.Rows.{joined}
 use Rattle.bits.specs.Places.{twoAt, putFour}
-use Rattle.shown.specs.declared.Shown.{Shown}
-use Rattle.shows.specs.declared.PageBits.{PageBits}
+use Rattle.element_status.specs.declared.Shown.{Shown}
+use Rattle.shelf_status.specs.declared.PageBits.{PageBits}
 
 abbrev pub entryPlace : ℕ → ℕ
 entryPlace i = 4 + 16 * i

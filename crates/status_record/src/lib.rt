@@ -1,9 +1,9 @@
 // A status record: what a reader hands back. Two page bits, the number of entries, and an entry of 16 bytes for each slot of the page.
-use kinds::settings::Settings;
+use element::settings::Settings;
+use element_status::Shown;
+use element_verdict::verdict::Verdict;
 use shelf::limits;
-use shown::Shown;
-use shows::PageBits;
-use verdicts::verdict::Verdict;
+use shelf_status::PageBits;
 ghost use mathlib.Core.Path.{_≡_};
 ghost use Prim.Native.Nat.{_≤_};
 ghost use lib.ListN.{length};

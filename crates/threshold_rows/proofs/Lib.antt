@@ -1,2 +1,2 @@
-pub mod Turned
-pub mod Asked
+pub mod Loops
+pub mod RowTests

@@ -6,13 +6,13 @@ use lib.Dec.{eqb}
 use lib.ListN.{length, getD}
 use Rattle.bits.specs.Choice.{pick, allBelow, firstBelow, offenceIn}
 use Rattle.bits.specs.Places.{fourAt}
-use Rattle.verdicts.specs.Thresholds.{had, ordered}
+use Rattle.element_verdict.specs.Thresholds.{had, ordered}
 use Rattle.refusals.specs.declared.Refusal.the-variants.{NotAllowed, NoSuchThreshold, ThresholdOrder}
 use Rattle.refusals.specs.declared.Answer.{Answer}
 use Rattle.refusals.specs.declared.Answer.the-variants.{Accepted}
 use Rattle.refusals.specs.Outcomes.{unless}
-use Rattle.opening.specs.Formed.{HasFront}
-use Rattle.pages.specs.Slots.{slotsOf, slotAt}
+use Rattle.shelf_formed.specs.Formed.{HasFront}
+use Rattle.page.specs.Slots.{slotsOf, slotAt}
 
 -- where the rows start
 abbrev pub onPage : ℕ
@@ -59,8 +59,8 @@ unfoldable pub allOrdered : List ℕ → List ℕ → ℕ → ℕ → Bool
 allOrdered c b k n = allBelow (rowOrdered c b k) n
 
 -- 6: a byte of an overall row; 7: a byte that the row's type doesn't have; 8: the order. Each is asked of all rows before the next
-unfoldable pub rowsAsked : List ℕ → List ℕ → ℕ → ℕ → Answer
-rowsAsked c b k n =
+unfoldable pub rowsTested : List ℕ → List ℕ → ℕ → ℕ → Answer
+rowsTested c b k n =
     unless (eqb (offence c b k n) (rowPlace k n)) NotAllowed
     (unless (allHad c b k n) NoSuchThreshold
     (unless (allOrdered c b k n) ThresholdOrder Accepted))

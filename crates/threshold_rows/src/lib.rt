@@ -1,15 +1,15 @@
 // Rows of four threshold bytes in a block: the slots of a page, or the entries of a threshold record.
 //
 // Page and record are asked the same of their rows, so the tests take a block and the place where its rows start.
-use pages::slots;
+use element_verdict::thresholds;
+use page::slots;
 use refusals::Answer;
 use refusals::Refusal;
-use verdicts::thresholds;
 ghost use mathlib.Core.Path.{_≡_};
 ghost use Prim.Native.Nat.{_+_, _≤_};
 ghost use lib.ListN.{length};
 ghost use Rattle.bits.specs.Choice.{pick};
-ghost use Rattle.threshold_rows.specs.Rows.{rowPlace, rowAt, HasRows, firstSet, allHad, rowsAsked};
+ghost use Rattle.threshold_rows.specs.Rows.{rowPlace, rowAt, HasRows, firstSet, allHad, rowsTested};
 
 // Where the rows start.
 pub const ON_PAGE: u16 = 8;
@@ -74,7 +74,7 @@ pub fn all_had(configuration: &[u8], block: &[u8], start: u16, n: u16) -> bool
 // One pass over n rows. A refused byte of any is told before a threshold that a type does not have, and that before the order.
 pub fn test(configuration: &[u8], block: &[u8], start: u16, n: u16) -> Answer
     requires { ⌜ HasRows (now configuration) (now block) start n ⌝ }
-    ensures { λ r. ⌜ r ≡ rowsAsked (now (configuration .entry)) (now (block .entry)) start n ⌝ }
+    ensures { λ r. ⌜ r ≡ rowsTested (now (configuration .entry)) (now (block .entry)) start n ⌝ }
 {
     let mut had = true;
     let mut ordered = true;

@@ -1,10 +1,10 @@
 -- `ses::rewrite_configuration` meets its contract. Assumes nothing.
 use mathlib.Core.Path.{refl, sym, _∙_}
 use denote.Ref.{now}
-use Rattle.opening.proofs.Stages.{configuration-sizes, not-configuration}
-use Rattle.pages.proofs.Bounds.{configuration-there}
-use Rattle.configuration.specs.Page.{configurationPage}
-use Rattle.ses.proofs.AsC.{configuration-refused, configuration-taken}
+use Rattle.shelf_formed.proofs.Opening.{configuration-sizes, not-configuration}
+use Rattle.page.proofs.SlotBounds.{configuration-there}
+use Rattle.configuration_page.specs.Page.{configurationPage}
+use Rattle.ses.proofs.ForC.{configuration-refused, configuration-taken}
 use borrow.Author.Needs.{needs}
 use Rattle.ses.proofs.rewrite_configuration.Statement.{statement}
 use Rattle.ses.proofs.rewrite_configuration.Tie as tie

@@ -1,10 +1,10 @@
 -- `ses::write_configuration` meets its contract. Assumes nothing.
 use mathlib.Core.Path.{refl, sym, _∙_}
 use denote.Ref.{now}
-use Rattle.opening.proofs.Stages.{formed-sizes, not-formed}
-use Rattle.pages.proofs.Bounds.{shelf-there}
-use Rattle.configuration.specs.Page.{configurationPage}
-use Rattle.ses.proofs.AsC.{shelf-refused, shelf-taken}
+use Rattle.shelf_formed.proofs.Opening.{formed-sizes, not-formed}
+use Rattle.page.proofs.SlotBounds.{shelf-there}
+use Rattle.configuration_page.specs.Page.{configurationPage}
+use Rattle.ses.proofs.ForC.{shelf-refused, shelf-taken}
 use borrow.Author.Needs.{needs}
 use Rattle.ses.proofs.write_configuration.Statement.{statement}
 use Rattle.ses.proofs.write_configuration.Tie as tie

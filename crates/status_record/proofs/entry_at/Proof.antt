@@ -1,6 +1,6 @@
 -- `status_record::entry_at` meets its contract. Assumes nothing.
 use denote.Ref.{now}
-use Rattle.status_record.proofs.Turned.{entry-read}
+use Rattle.status_record.proofs.EntryRows.{entry-read}
 use borrow.Author.Needs.{needs}
 use Rattle.status_record.proofs.entry_at.Statement.{statement}
 use Rattle.status_record.proofs.entry_at.Tie as tie

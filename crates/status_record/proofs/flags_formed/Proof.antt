@@ -1,6 +1,6 @@
 -- `status_record::flags_formed` meets its contract. Assumes nothing.
 use denote.Ref.{now}
-use Rattle.status_record.proofs.Turned.{flags-read}
+use Rattle.status_record.proofs.EntryRows.{flags-read}
 use borrow.Author.Needs.{needs}
 use Rattle.status_record.proofs.flags_formed.Statement.{statement}
 use Rattle.status_record.proofs.flags_formed.Tie as tie

@@ -1,6 +1,6 @@
 -- `status_record::put_entry` meets its contract. Assumes nothing.
 use denote.Ref.{now}
-use Rattle.status_record.proofs.Turned.{entry-put}
+use Rattle.status_record.proofs.EntryRows.{entry-put}
 use borrow.Author.Needs.{needs}
 use Rattle.status_record.proofs.put_entry.Statement.{statement}
 use Rattle.status_record.proofs.put_entry.Tie as tie

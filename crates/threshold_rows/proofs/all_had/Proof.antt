@@ -8,9 +8,9 @@ use borrow.Author.Needs.{needs}
 use borrow.Author.Tests.{not-true, not-false}
 use Rattle.bits.specs.Choice.{allBelow}
 use Rattle.bits.proofs.Logic.{below-fails, below-next}
-use Rattle.pages.specs.Slots.{slotCarried}
-use Rattle.pages.proofs.Walked.{walk-on}
-use Rattle.threshold_rows.proofs.Turned.{row-had}
+use Rattle.page.specs.Slots.{slotCarried}
+use Rattle.page.proofs.SlotWalk.{walk-on}
+use Rattle.threshold_rows.proofs.Loops.{row-had}
 use Rattle.threshold_rows.specs.Rows.{rowHad, allHad}
 use Rattle.threshold_rows.proofs.all_had.Statement.{statement}
 use Rattle.threshold_rows.proofs.all_had.Tie as tie

@@ -8,11 +8,11 @@ use borrow.Author.Needs.{needs}
 use borrow.Author.Tests.{le-ltb, not-true, not-false}
 use Rattle.bits.specs.Choice.{allBelow, refusedIn}
 use Rattle.bits.proofs.Logic.{fails, below-next}
-use Rattle.pages.specs.Slots.{slotCarried}
-use Rattle.pages.proofs.Walked.{walk-on}
+use Rattle.page.specs.Slots.{slotCarried}
+use Rattle.page.proofs.SlotWalk.{walk-on}
 use Rattle.threshold_rows.specs.Rows.{rowOffending, rowHad, rowOrdered}
-use Rattle.threshold_rows.proofs.Turned.{row-offends, row-had, row-ordered, and-next}
-use Rattle.threshold_rows.proofs.Asked.{refused-row, not-had, not-ordered, rows-passed}
+use Rattle.threshold_rows.proofs.Loops.{row-offends, row-had, row-ordered, and-next}
+use Rattle.threshold_rows.proofs.RowTests.{refused-row, not-had, not-ordered, rows-passed}
 use Rattle.threshold_rows.proofs.test.Statement.{statement}
 use Rattle.threshold_rows.proofs.test.Tie as tie
 

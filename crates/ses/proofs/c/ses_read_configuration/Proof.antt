@@ -1,8 +1,8 @@
 -- `ses::c::ses_read_configuration` meets its contract. Assumes nothing.
 use denote.Ref.{now}
-use Rattle.configuration.specs.Read.{configurationRead}
-use Rattle.configuration.specs.Told.{configurationOf}
-use Rattle.ses.proofs.AsC.{read-told}
+use Rattle.configuration_page.specs.Read.{configurationRead}
+use Rattle.configuration_page.specs.Configuration.{configurationOf}
+use Rattle.ses.proofs.ForC.{read-told}
 use borrow.Author.Needs.{needs}
 use Rattle.ses.proofs.c.ses_read_configuration.Statement.{statement}
 use Rattle.ses.proofs.c.ses_read_configuration.Tie as tie

@@ -1,7 +1,7 @@
 -- `ses::c::ses_read_status` meets its contract. Assumes nothing.
 use denote.Ref.{now}
-use Rattle.status.specs.Read.{statusRead, statusRecord}
-use Rattle.ses.proofs.AsC.{read-told}
+use Rattle.status_page.specs.Read.{statusRead, statusRecord}
+use Rattle.ses.proofs.ForC.{read-told}
 use borrow.Author.Needs.{needs}
 use Rattle.ses.proofs.c.ses_read_status.Statement.{statement}
 use Rattle.ses.proofs.c.ses_read_status.Tie as tie

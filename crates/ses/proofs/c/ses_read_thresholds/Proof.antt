@@ -1,7 +1,7 @@
 -- `ses::c::ses_read_thresholds` meets its contract. Assumes nothing.
 use denote.Ref.{now}
-use Rattle.threshold_in.specs.Read.{thresholdRead, thresholdRecord}
-use Rattle.ses.proofs.AsC.{read-told}
+use Rattle.threshold_page_in.specs.Read.{thresholdRead, thresholdRecord}
+use Rattle.ses.proofs.ForC.{read-told}
 use borrow.Author.Needs.{needs}
 use Rattle.ses.proofs.c.ses_read_thresholds.Statement.{statement}
 use Rattle.ses.proofs.c.ses_read_thresholds.Tie as tie

@@ -1,8 +1,8 @@
 -- `ses::c::ses_rewrite_configuration` meets its contract. Assumes nothing.
 use denote.Ref.{now}
-use Rattle.configuration.specs.Page.{configurationPage}
+use Rattle.configuration_page.specs.Page.{configurationPage}
 use Rattle.ses.specs.Calls.{configurationRewritten}
-use Rattle.ses.proofs.AsC.{written-told}
+use Rattle.ses.proofs.ForC.{written-told}
 use borrow.Author.Needs.{needs}
 use Rattle.ses.proofs.c.ses_rewrite_configuration.Statement.{statement}
 use Rattle.ses.proofs.c.ses_rewrite_configuration.Tie as tie

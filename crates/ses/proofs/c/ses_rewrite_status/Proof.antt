@@ -1,8 +1,8 @@
 -- `ses::c::ses_rewrite_status` meets its contract. Assumes nothing.
 use denote.Ref.{now}
-use Rattle.status_again.specs.Again.{pageAgain}
+use Rattle.status_rewritten.specs.Rewritten.{pageAgain}
 use Rattle.ses.specs.Calls.{statusRewritten}
-use Rattle.ses.proofs.AsC.{written-told}
+use Rattle.ses.proofs.ForC.{written-told}
 use borrow.Author.Needs.{needs}
 use Rattle.ses.proofs.c.ses_rewrite_status.Statement.{statement}
 use Rattle.ses.proofs.c.ses_rewrite_status.Tie as tie

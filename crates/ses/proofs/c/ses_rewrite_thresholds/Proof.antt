@@ -1,8 +1,8 @@
 -- `ses::c::ses_rewrite_thresholds` meets its contract. Assumes nothing.
 use denote.Ref.{now}
-use Rattle.threshold_in.specs.Again.{pageAgain}
+use Rattle.threshold_page_in.specs.Rewritten.{pageAgain}
 use Rattle.ses.specs.Calls.{thresholdsRewritten}
-use Rattle.ses.proofs.AsC.{written-told}
+use Rattle.ses.proofs.ForC.{written-told}
 use borrow.Author.Needs.{needs}
 use Rattle.ses.proofs.c.ses_rewrite_thresholds.Statement.{statement}
 use Rattle.ses.proofs.c.ses_rewrite_thresholds.Tie as tie

@@ -1,8 +1,8 @@
 -- `ses::c::ses_write_status` meets its contract. Assumes nothing.
 use denote.Ref.{now}
-use Rattle.status.specs.Page.{statusPage}
+use Rattle.status_page.specs.Page.{statusPage}
 use Rattle.ses.specs.Calls.{statusWritten}
-use Rattle.ses.proofs.AsC.{written-told}
+use Rattle.ses.proofs.ForC.{written-told}
 use borrow.Author.Needs.{needs}
 use Rattle.ses.proofs.c.ses_write_status.Statement.{statement}
 use Rattle.ses.proofs.c.ses_write_status.Tie as tie

@@ -6,7 +6,7 @@ use borrow.Author.Needs.{needs}
 use denote.Ref.{now}
 use Rattle.shelf.specs.Limits.{mostTypes}
 use Rattle.shelf.specs.Types.{typeCount, before, elementsOf}
-use Rattle.shelf.proofs.Counts.{before-none, before-next}
+use Rattle.shelf.proofs.ElementsBefore.{before-none, before-next}
 use Rattle.shelf.proofs.types.all_elements.Statement.{statement}
 use Rattle.shelf.proofs.types.all_elements.Tie as tie
 

@@ -1,7 +1,7 @@
 -- `shelf::types::first_run` meets its contract. Assumes nothing.
 use denote.Ref.{now}
 use borrow.Author.Needs.{needs}
-use Rattle.shelf.proofs.Runs.{run-first}
+use Rattle.shelf.proofs.TypeRuns.{run-first}
 use Rattle.shelf.proofs.types.first_run.Statement.{statement}
 use Rattle.shelf.proofs.types.first_run.Tie as tie
 

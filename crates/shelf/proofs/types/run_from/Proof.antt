@@ -9,8 +9,8 @@ use Rattle.bits.specs.Choice.{allBelow}
 use Rattle.shelf.specs.Limits.{mostTypes}
 use Rattle.shelf.specs.Types.{endedBy}
 use Rattle.shelf.specs.Types as counts
-use Rattle.shelf.proofs.Counts.{ended, before-small}
-use Rattle.shelf.proofs.Runs.{type-here, type-none, ended-next, run-is}
+use Rattle.shelf.proofs.ElementsBefore.{ended, before-small}
+use Rattle.shelf.proofs.TypeRuns.{type-here, type-none, ended-next, run-is}
 use Rattle.shelf.proofs.types.run_from.Statement.{statement}
 use Rattle.shelf.proofs.types.run_from.Tie as tie
 

@@ -1,7 +1,7 @@
 -- `shelf::types::run_to` meets its contract. Assumes nothing.
 use denote.Ref.{now}
 use borrow.Author.Needs.{needs}
-use Rattle.shelf.proofs.Runs.{run-stays, run-behind}
+use Rattle.shelf.proofs.TypeRuns.{run-stays, run-behind}
 use Rattle.shelf.proofs.types.run_to.Statement.{statement}
 use Rattle.shelf.proofs.types.run_to.Tie as tie
 

@@ -1,7 +1,7 @@
 -- `shelf::types::run_with` meets its contract. Assumes nothing.
 use denote.Ref.{now}
 use borrow.Author.Needs.{needs}
-use Rattle.shelf.proofs.Runs.{run-made}
+use Rattle.shelf.proofs.TypeRuns.{run-made}
 use Rattle.shelf.proofs.types.run_with.Statement.{statement}
 use Rattle.shelf.proofs.types.run_with.Tie as tie
 

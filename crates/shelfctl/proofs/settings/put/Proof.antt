@@ -2,7 +2,7 @@
 use mathlib.Core.Path.{sym, _∙_}
 use denote.Ref.{now}
 use borrow.Author.Needs.{needs}
-use Rattle.opening.proofs.Stored.{opened-there}
+use Rattle.shelf_formed.proofs.ElementPut.{opened-there}
 use Rattle.shelfctl.proofs.settings.put.Statement.{statement}
 use Rattle.shelfctl.proofs.settings.put.Tie as tie
 

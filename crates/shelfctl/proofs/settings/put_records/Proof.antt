@@ -4,7 +4,7 @@ use Prim.Native.Nat.{_-_}
 use native.Mathlib.Omega.{arith}
 use lib.ListN.{length}
 use borrow.Author.Needs.{needs}
-use Rattle.bits.proofs.Placed.{length-put}
+use Rattle.bits.proofs.FourPut.{length-put}
 use Rattle.shelfctl.proofs.settings.put_records.Statement.{statement}
 use Rattle.shelfctl.proofs.settings.put_records.Tie as tie
 

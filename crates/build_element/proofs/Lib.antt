@@ -1,0 +1,6 @@
+pub mod TypeFacts
+pub mod RequestBytes
+pub mod Requests
+pub mod RequestSays
+pub mod FirstElement
+pub mod BestPart

@@ -1,0 +1,81 @@
+-- The element that asks for given settings: its bytes, and what they say. Assumes nothing.
+use mathlib.Core.Path.{_≡_, refl, ap, _∙_}
+use mathlib.Core.Bool.{Bool, true, false, not, _&&_, _||_}
+use mathlib.Core.List.{List, [], _∷_}
+use Prim.Native.Nat.{ℕ, _+_, _%_, _<_, _≤_}
+use native.Mathlib.Omega.{arith}
+use lib.Bits.{bitOr}
+use lib.Dec.{eqb, leb, ltb}
+use lib.ListN.{getD}
+use borrow.Author.Tests.{eqb-true, eq-eqb, ne-eqb, lt-ltb, le-leb, lt-leb}
+use Rattle.bits.specs.Numbers.{big}
+use Rattle.bits.specs.Places.{fourAt}
+use Rattle.bits.proofs.Logic.{byByteIf}
+use Rattle.element.specs.declared.types.Kind.{Kind}
+use Rattle.element.specs.declared.settings.Settings.{Settings}
+use Rattle.element.specs.declared.control.Control.{Control}
+use Rattle.element.specs.Settings.{settingsOf, settingsBytes}
+use Rattle.element.specs.Control.{acted, settled}
+use Rattle.build_element.specs.Wishes.{inReach, alike, silent, withSelect, requestBytes, requestFor, clearing, turning, own, brings, one}
+use Rattle.build_element.proofs.TypeFacts.{first-small}
+use Rattle.build_element.specs.Parts.{tried, tries, sooner}
+
+or-select : (x : ℕ) → x < 128 → bitOr x 128 ≡ 128 + x
+or-select x h =
+    eqb-true (bitOr x 128) (128 + x) (byByteIf (λ b. ltb b 128) (λ b. eqb (bitOr b 128) (128 + b)) refl x (omega arith) (lt-ltb x 128 h))
+
+pub ask-is : (k : Kind) (r : Settings) {e : List ℕ} → e ≡ settingsBytes k r → bitOr (getD e 0 0) 128 ∷ getD e 1 0 ∷ getD e 2 0 ∷ getD e 3 0 ∷ [] ≡ requestBytes k r
+unfolding requestBytes
+ask-is k r {e} p =
+    let h : getD e 0 0 < 128 = rw p (first-small k r) in
+    ap (λ (x : ℕ). x ∷ getD e 1 0 ∷ getD e 2 0 ∷ getD e 3 0 ∷ []) (or-select (getD e 0 0) h) ∙ ap withSelect p
+
+-- what the calls say
+pub reach-is : (k : Kind) (e w : List ℕ) {s x : Settings} → s ≡ settingsOf k e → x ≡ settingsOf k w → s .swap || not (x .swap) ≡ inReach k e w
+unfolding inReach
+reach-is k e w p q = rw (p, q)
+
+pub own-is : (k : Kind) (e w : List ℕ) {s x r : Settings} {n : ℕ} {c : List ℕ} → s ≡ settingsOf k e → x ≡ settingsOf k w → n ≡ turning (s .speed) (x .speed)
+    → r ≡ requestFor x (clearing s x) n → c ≡ requestBytes k r → c ≡ own k e w
+unfolding own
+own-is k e w p q u g h = h ∙ rw (g, u, p, q)
+
+module _ (k : Kind) (c : Control) (e w : List ℕ) where
+  pub acts-is : {s x : Settings} {y : List ℕ} {b : Bool} → c .select ≡ true → s ≡ settingsOf k e → x ≡ acted c s → y ≡ settingsBytes k x → b ≡ alike y w → b ≡ brings k c e w
+  unfolding brings settled
+  acts-is t hs hx hy h = h ∙ rw (hy, hx, hs, t)
+
+  pub leaves-is : {b : Bool} → c .select ≡ false → b ≡ alike e w → b ≡ brings k c e w
+  unfolding brings settled
+  leaves-is t h = h ∙ rw t
+
+  module _ {b : Bool} (q : b ≡ brings k c e w) where
+    pub one-silent : b ≡ true → silent ≡ one k c e w
+    unfolding one
+    one-silent t = rw (← q, t)
+
+    pub one-own : {x : List ℕ} → b ≡ false → x ≡ own k e w → x ≡ one k c e w
+    unfolding one
+    one-own t h = h ∙ rw (← q, t)
+
+-- what is tried for x, without a speed code and with one
+module _ (k : Kind) (x : List ℕ) (v : ℕ) {s r : Settings} {c : List ℕ} (p : s ≡ settingsOf k x) where
+  pub coded-is : 2 ≤ v → r ≡ requestFor s (eqb (v % 2) 1) (s .speed) → c ≡ requestBytes k r → c ≡ tried k x v
+  unfolding tried
+  coded-is l q h = let t : leb 2 v ≡ true = le-leb 2 v l in h ∙ rw (q, p, t)
+
+  pub uncoded-is : v < 2 → r ≡ requestFor s (eqb (v % 2) 1) 0 → c ≡ requestBytes k r → c ≡ tried k x v
+  unfolding tried
+  uncoded-is l q h = let t : leb 2 v ≡ false = lt-leb 2 v l in h ∙ rw (q, p, t)
+
+module _ (k : Kind) (x : List ℕ) {s : Settings} (p : s ≡ settingsOf k x) where
+  pub two-tries : s .speed ≡ 0 → 2 ≡ tries k x
+  unfolding tries
+  two-tries h = let t : eqb (s .speed) 0 ≡ true = eq-eqb _ _ h in rw (← p, t)
+
+  pub four-tries : (s .speed ≡ 0 → ⊥) → 4 ≡ tries k x
+  unfolding tries
+  four-tries h = let t : eqb (s .speed) 0 ≡ false = ne-eqb _ _ h in rw (← p, t)
+
+pub sooner-is : (m n : ℕ) (p q : List ℕ) {x y : ℕ} → x ≡ big (fourAt p 0) → y ≡ big (fourAt q 0) → ltb m n || (eqb m n && ltb x y) ≡ sooner m p n q
+sooner-is m n p q hx hy = rw (hx, hy)

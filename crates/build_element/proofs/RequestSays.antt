@@ -1,0 +1,76 @@
+-- What the element that asks for given settings says: it is selected, has no reserved bit, and asks for them. Assumes nothing.
+use mathlib.Core.Path.{_≡_, refl, sym, ap, _∙_}
+use mathlib.Core.Bool.{true}
+use mathlib.Core.List.{[], _∷_}
+use Prim.Native.Nat.{ℕ, zero, suc, _+_, _-_, _<_}
+use native.Mathlib.Omega.{arith}
+use lib.Dec.{ltb}
+use lib.ListN.{length, getD}
+use borrow.Author.Tests.{lt-ltb}
+use Rattle.bits.specs.Bits.{bit, only}
+use Rattle.bits.proofs.Logic.{pick-yes, and-both, four-pass, byByteIf}
+use Rattle.bits.proofs.Rows.{as-four}
+use Rattle.element.specs.declared.types.Kind.{Kind}
+use Rattle.element.specs.declared.settings.Settings.{Settings}
+use Rattle.element.specs.Settings.{settingsOf, settingsBytes}
+use Rattle.element.specs.Control.{selected, unselected, asking, controlOf, offending}
+use Rattle.element.proofs.SettingsBothWays.{Storable, length-bytes, settings-back, first-clear, second-named, third-none, fourth-named}
+use Rattle.build_element.specs.Wishes.{silent, requestBytes}
+use Rattle.build_element.proofs.TypeFacts.{heading, first-small, stored-small, rest-same}
+
+head-only : (x : ℕ) → x < 256 → only (6 ∷ 5 ∷ 4 ∷ []) x ≡ true → only (7 ∷ 6 ∷ 5 ∷ 4 ∷ []) (128 + x) ≡ true
+head-only = byByteIf (only (6 ∷ 5 ∷ 4 ∷ [])) (λ x. only (7 ∷ 6 ∷ 5 ∷ 4 ∷ []) (128 + x)) refl
+
+head-selects : (x : ℕ) → x < 128 → bit 7 (128 + x) ≡ true
+head-selects x h = byByteIf (λ b. ltb b 128) (λ b. bit 7 (128 + b)) refl x (omega arith) (lt-ltb x 128 h)
+
+module _ (k : Kind) (r : Settings) where
+  head-only-at : only (7 ∷ 6 ∷ 5 ∷ 4 ∷ []) (128 + getD (settingsBytes k r) 0 0) ≡ true
+  head-only-at = head-only (getD (settingsBytes k r) 0 0) (omega (arith, first-small k r)) (first-clear k r)
+
+  pub ask-selected : selected (requestBytes k r) ≡ true
+  unfolding requestBytes
+  ask-selected = head-selects (getD (settingsBytes k r) 0 0) (first-small k r)
+
+  pub ask-fine : offending k (requestBytes k r) ≡ 4
+  unfolding offending requestBytes
+  ask-fine =
+      pick-yes (bit 7 (128 + getD (settingsBytes k r) 0 0)) _ 4 (head-selects (getD (settingsBytes k r) 0 0) (first-small k r))
+      ∙ four-pass head-only-at (second-named k r) (third-none k r) (fourth-named k r)
+
+  pub ask-length : length (requestBytes k r) ≡ 4
+  unfolding requestBytes
+  ask-length = refl
+
+  pub ask-small : (i : ℕ) → getD (requestBytes k r) i 0 < 256
+  unfolding requestBytes
+  ask-small zero = omega (arith, first-small k r)
+  ask-small (suc zero) = stored-small k r 1
+  ask-small (suc (suc zero)) = stored-small k r 2
+  ask-small (suc (suc (suc zero))) = stored-small k r 3
+  ask-small (suc (suc (suc (suc i)))) = omega arith
+
+  pub ask-back : Storable k r → settingsOf k (requestBytes k r) ≡ r
+  unfolding requestBytes
+  ask-back h =
+      let e = settingsBytes k r in
+      let x = getD e 0 0 in
+      let g : heading (128 + x) ≡ true = and-both (head-selects x (first-small k r)) head-only-at in
+      let m : 128 + x - 128 ≡ x = omega arith in
+      rest-same k (128 + x) (getD e 1 0) (getD e 2 0) (getD e 3 0) (omega (arith, first-small k r)) g
+      ∙ ap (λ (y : ℕ). settingsOf k (y ∷ getD e 1 0 ∷ getD e 2 0 ∷ getD e 3 0 ∷ [])) m
+      ∙ ap (settingsOf k) (sym (as-four e (length-bytes k r)))
+      ∙ settings-back k r h
+
+  pub ask-control : Storable k r → controlOf k (requestBytes k r) ≡ asking r
+  unfolding controlOf
+  ask-control h = pick-yes (selected (requestBytes k r)) _ unselected ask-selected ∙ ap asking (ask-back h)
+
+-- four zeros are not selected
+pub silent-control : (k : Kind) → controlOf k silent ≡ unselected
+unfolding controlOf
+silent-control k = refl
+
+pub silent-fine : (k : Kind) → offending k silent ≡ 4
+unfolding offending
+silent-fine k = refl

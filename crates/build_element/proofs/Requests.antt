@@ -1,0 +1,67 @@
+-- Selected control elements: each is told by what it asks for, and what it asks for by what it reaches. Assumes nothing.
+use mathlib.Core.Path.{_≡_, refl, sym, ap, _∙_}
+use mathlib.Core.Bool.{Bool, true, false, not, _&&_}
+use mathlib.Core.List.{[], _∷_}
+use mathlib.Core.Logic.{_⊎_, inl, inr}
+use Prim.Native.Nat.{ℕ, _+_, _-_, _<_}
+use native.Mathlib.Omega.{arith}
+use lib.Dec.{eqb}
+use borrow.Author.Tests.{eqb-true}
+use Rattle.bits.specs.Bits.{only}
+use Rattle.bits.proofs.Logic.{by-case, pick-yes, all-four, byByteIf}
+use Rattle.element.specs.declared.types.Kind.{Kind}
+use Rattle.element.specs.declared.settings.Settings.{Settings}
+use Rattle.element.specs.Settings.{settingsOf, settingsBytes, secondNamed, fourthNamed}
+use Rattle.element.specs.Control.{selected, asking, offending, speedAfter, acted}
+use Rattle.build_element.specs.Wishes.{withSelect, requestBytes, requestFor}
+use Rattle.element.proofs.SettingsBothWays.{kind-again}
+use Rattle.build_element.proofs.TypeFacts.{heading, rest-same}
+
+head-rest : (a : ℕ) → a < 256 → heading a ≡ true → only (6 ∷ 5 ∷ 4 ∷ []) (a - 128) ≡ true
+head-rest = byByteIf heading (λ a. only (6 ∷ 5 ∷ 4 ∷ []) (a - 128)) refl
+
+head-high : (a : ℕ) → a < 256 → heading a ≡ true → 128 + (a - 128) ≡ a
+head-high a h e = eqb-true (128 + (a - 128)) a (byByteIf heading (λ a. eqb (128 + (a - 128)) a) refl a h e)
+
+-- a selected element without a reserved bit is the one that asks for what it says
+pub ask-again : (k : Kind) (a b c d : ℕ) → a < 256 → b < 256 → d < 256 → selected (a ∷ b ∷ c ∷ d ∷ []) ≡ true → offending k (a ∷ b ∷ c ∷ d ∷ []) ≡ 4
+    → requestBytes k (settingsOf k (a ∷ b ∷ c ∷ d ∷ [])) ≡ a ∷ b ∷ c ∷ d ∷ []
+unfolding requestBytes offending
+ask-again k a b c d ha hb hd t e =
+    let h = all-four (only (7 ∷ 6 ∷ 5 ∷ 4 ∷ []) a) (secondNamed k b) (eqb c 0) (fourthNamed k d) (sym (pick-yes _ _ _ t) ∙ e) in
+    let g : heading a ≡ true = rw (t, h .0) in
+    let r = kind-again k (a - 128) b c d (omega arith) hb hd (head-rest a ha g) (h .1) (h .2) (h .3) in
+    ap (λ (s : Settings). withSelect (settingsBytes k s)) (rest-same k a b c d ha g)
+    ∙ ap withSelect r
+    ∙ ap (λ (x : ℕ). x ∷ b ∷ c ∷ d ∷ []) (head-high a ha g)
+
+-- what reaches w from s
+abbrev pub Reaches : Settings → Settings → Bool → ℕ → Type 0
+Reaches s w reset code = (s .swap && not reset ≡ w .swap) × (speedAfter code (s .speed) ≡ w .speed)
+
+pub request-reaches : (s w : Settings) (reset : Bool) (code : ℕ) → Reaches s w reset code → acted (asking (requestFor w reset code)) s ≡ w
+request-reaches s w reset code h =
+    let x = h .0 in
+    let y = h .1 in
+    λ i. record { prdfail = w .prdfail; disabled = w .disabled; swap = x i; ident = w .ident; fail = w .fail; on = w .on; speed = y i }
+
+module _ (s w r : Settings) (e : acted (asking r) s ≡ w) where
+  pub request-is : r ≡ requestFor w (r .swap) (r .speed)
+  request-is =
+      let p = ap (λ (x : Settings). x .prdfail) e in
+      let d = ap (λ (x : Settings). x .disabled) e in
+      let n = ap (λ (x : Settings). x .ident) e in
+      let f = ap (λ (x : Settings). x .fail) e in
+      let o = ap (λ (x : Settings). x .on) e in
+      λ i. record { prdfail = p i; disabled = d i; swap = r .swap; ident = n i; fail = f i; on = o i; speed = r .speed }
+
+  pub reaches-it : Reaches s w (r .swap) (r .speed)
+  reaches-it = (ap (λ (x : Settings). x .swap) e, ap (λ (x : Settings). x .speed) e)
+
+-- so the code is 0 or the speed that is reached
+pub code-is : (s w : Settings) (reset : Bool) (code : ℕ) → Reaches s w reset code → (code ≡ 0) ⊎ (code ≡ w .speed)
+code-is s w reset code h =
+    by-case (eqb code 0) (λ e. inl (eqb-true code 0 e)) (λ e. inr (sym (other e) ∙ h .1))
+  where
+    other : eqb code 0 ≡ false → speedAfter code (s .speed) ≡ code
+    other e = rw e

@@ -1,0 +1,38 @@
+-- `build_element::brings` meets its contract. Assumes nothing.
+use Rattle.build_element.proofs.RequestBytes.{acts-is, leaves-is}
+use borrow.Author.Needs.{needs}
+use Rattle.build_element.proofs.brings.Statement.{statement}
+use Rattle.build_element.proofs.brings.Tie as tie
+
+of-requires : tie.Need-of-requires
+of-requires c κs = search needs
+
+act-requires : tie.Need-act-requires
+act-requires c κs = search needs
+
+bytes-requires : tie.Need-bytes-requires
+bytes-requires c κs = search needs
+
+alike-requires : tie.Need-alike-requires
+alike-requires c κs = search needs
+
+alike-requires-2 : tie.Need-alike-requires-2
+alike-requires-2 c κs = search needs
+
+returns : tie.Need-returns
+returns c = let s = c .before .before .before .before .before .args in acts-is (s .kind) (s .control) (s .stored) (s .wanted) (c .before .before .before .before .if1 .taken) (c .before .before .before .of .ensures) (c .before .before .act .ensures) (c .before .bytes .ensures) (c .alike .ensures)
+
+returns-2 : tie.Need-returns-2
+returns-2 c = let s = c .before .before .args in leaves-is (s .kind) (s .control) (s .stored) (s .wanted) (c .before .if1 .left) (c .alike2 .ensures)
+
+pub brings-spec : {M : Type 1} → statement M
+brings-spec =
+    tie.close
+    (tie.spec
+    of-requires
+    act-requires
+    bytes-requires
+    alike-requires
+    alike-requires-2
+    returns
+    returns-2)

@@ -1,0 +1,38 @@
+-- `build_element::tried` meets its contract. Assumes nothing.
+use Rattle.build_element.proofs.RequestBytes.{coded-is, uncoded-is}
+use borrow.Author.Needs.{needs}
+use Rattle.build_element.proofs.tried.Statement.{statement}
+use Rattle.build_element.proofs.tried.Tie as tie
+
+of-requires : tie.Need-of-requires
+of-requires c κs = search needs
+
+request-requires : tie.Need-request-requires
+request-requires c κs = search needs
+
+ask-requires : tie.Need-ask-requires
+ask-requires c κs = search needs
+
+request-requires-2 : tie.Need-request-requires-2
+request-requires-2 c κs = search needs
+
+ask-requires-2 : tie.Need-ask-requires-2
+ask-requires-2 c κs = search needs
+
+returns : tie.Need-returns
+returns c = let s = c .before .before .before .before .args in uncoded-is (s .kind) (s .wanted) (s .v) (c .before .before .before .of .ensures) (c .before .before .if1 .taken) (c .before .request .ensures) (c .ask .ensures)
+
+returns-2 : tie.Need-returns-2
+returns-2 c = let s = c .before .before .before .before .args in coded-is (s .kind) (s .wanted) (s .v) (c .before .before .before .of .ensures) (c .before .before .if1 .left) (c .before .request2 .ensures) (c .ask2 .ensures)
+
+pub tried-spec : {M : Type 1} → statement M
+tried-spec =
+    tie.close
+    (tie.spec
+    of-requires
+    request-requires
+    ask-requires
+    request-requires-2
+    ask-requires-2
+    returns
+    returns-2)

@@ -1,0 +1,157 @@
+-- What one turn of each loop of the search does, and what it comes to. Assumes nothing.
+use mathlib.Core.Path.{_≡_, refl, sym, ap, _∙_}
+use mathlib.Core.Bool.{Bool, true, false, not}
+use mathlib.Core.List.{List}
+use Prim.Native.Nat.{ℕ, suc, _+_, _-_, _<_, _≤_}
+use native.Mathlib.Numerals.{add-one}
+use native.Mathlib.Omega.{arith}
+use mir.Val.{boolByte}
+use borrow.Author.Tests.{lt-ltb, le-ltb, ltb-true}
+use Rattle.bits.specs.Choice.{allBelow, firstBelow, sumBelow}
+use Rattle.bits.specs.Bits.{num}
+use Rattle.bits.proofs.Halves.{num-small}
+use Rattle.bits.proofs.Logic.{by-case, pick-yes, pick-no, fails, first-none, first-at, first-passes}
+use Rattle.element.specs.declared.control.Control.{Control}
+use Rattle.element.specs.Control.{controlOf}
+use Rattle.build_element.specs.Wishes.{silent, alike, brings}
+use Rattle.build_element.specs.Parts.{cost, tried, tries, sooner, better, bestTried, bestOf, overallFor}
+use Rattle.build_element.proofs.FirstElement.{alike-same}
+use Rattle.build_element.proofs.BestPart.{cost-is, tries-do, best-again, best-none}
+use Rattle.shelf.specs.Elements.{settingsAt}
+use Rattle.page.specs.declared.slots.Slot.{Slot}
+use Rattle.control_page.specs.Brought.{settingsIn}
+use Rattle.build_overall.specs.declared.Candidate.{Candidate}
+use Rattle.build_overall.specs.Choice.{storedFrom, wantedFrom, costOf, ranked, triedOne, bestAfter, bestAmong, repeated, overallOf}
+
+bool-num : (b : Bool) → boolByte b ≡ num b
+bool-num true = refl
+bool-num false = refl
+
+pub bool-small : (b : Bool) → boolByte b ≤ 1
+bool-small b = rw (bool-num b) (num-small b)
+
+-- the search for an equal record
+module _ (w : List ℕ) (a j : ℕ) where
+  abbrev pub like : ℕ → Bool
+  like i = alike (settingsIn w (a + i)) (settingsIn w j)
+
+  pub none-like : allBelow (fails like) (a - a) ≡ true
+  none-like = let z : a - a ≡ 0 = omega arith in rw z
+
+  module _ (i : ℕ) (l : a ≤ i) {p q : List ℕ} {d : Bool} (hq : q ≡ settingsIn w j) (hp : p ≡ settingsIn w i) (hd : d ≡ alike p q) (none : allBelow (fails like) (i - a) ≡ true) where
+    like-is : like (i - a) ≡ d
+    like-is = let z : a + (i - a) ≡ i = omega arith in rw (z, hd, hp, hq)
+
+    pub found-like : i < j → d ≡ true → true ≡ repeated w a j
+    unfolding repeated
+    found-like b t =
+        let z = first-at like (j - a) (i - a) (omega arith) none (like-is ∙ t) in
+        let u : i - a < j - a = omega arith in
+        sym (rw z (lt-ltb (i - a) (j - a) u))
+
+    pub not-like : d ≡ false → allBelow (fails like) (i + 1 - a) ≡ true
+    not-like t = let z : i + 1 - a ≡ suc (i - a) = omega arith in rw (z, none, like-is, t)
+
+  pub all-unlike : (n : ℕ) → n ≡ j - a → allBelow (fails like) n ≡ true → false ≡ repeated w a j
+  unfolding repeated
+  all-unlike n z h = let g = first-none like n h in sym (rw (← z, g) (le-ltb n n (omega arith)))
+
+module _ (s w : List ℕ) (at : Slot) where
+  abbrev e : ℕ → List ℕ
+  e = storedFrom s (at .first)
+
+  abbrev x : ℕ → List ℕ
+  x = wantedFrom w (at .first)
+
+  abbrev m : ℕ
+  m = at .end - at .first
+
+  -- what is counted of the first n elements under an overall element that asks for c
+  abbrev pub counted : Control → ℕ → ℕ
+  counted c n = num (c .select) + sumBelow (λ i. num (not (brings (at .kind) c (e i) (x i)))) n
+
+  pub counted-none : (c : Control) → boolByte (c .select) ≡ counted c (at .first - at .first)
+  counted-none c = let z : at .first - at .first ≡ 0 = omega arith in rw (z, bool-num) (omega arith)
+
+  pub counted-next : (c : Control) {p q : List ℕ} {d : Bool} {n : ℕ} (j : ℕ) → at .first ≤ j → p ≡ settingsAt s j → q ≡ settingsIn w j → d ≡ brings (at .kind) c p q
+      → n ≡ counted c (j - at .first) → n + boolByte (not d) ≡ counted c (j + 1 - at .first)
+  counted-next c {p} {q} {d} {n} j l hp hq hd hn =
+      let i = j - at .first in
+      let z : at .first + i ≡ j = omega arith in
+      let y : j + 1 - at .first ≡ suc i = omega arith in
+      let g : brings (at .kind) c (e i) (x i) ≡ d = rw (z, hd, hp, hq) in
+      rw (y, g, bool-num (not d), hn) (omega arith)
+
+  pub counted-all : (c : Control) (o : List ℕ) {n : ℕ} (i : ℕ) → c ≡ controlOf (at .kind) o → i ≡ m → n ≡ counted c i → n ≡ costOf s w at o
+  unfolding costOf
+  counted-all c o i h z g = rw (g, z, h) (sym (cost-is (at .kind) e x m o))
+
+  -- the better of the best so far and o
+  module _ (b : Candidate) (o : List ℕ) {n : ℕ} {d : Bool} (h : n ≡ costOf s w at o) (g : d ≡ sooner n o (b .selects) (b .overall)) where
+    told : {t : Bool} → d ≡ t → sooner (costOf s w at o) o (b .selects) (b .overall) ≡ t
+    told q = rw (← h) (sym g ∙ q)
+
+    pub one-better : d ≡ true → record { overall = o; selects = n } ≡ triedOne s w at b o
+    unfolding triedOne
+    one-better t = ap (λ (y : ℕ). record { overall = o; selects = y }) h ∙ sym (pick-yes _ _ _ (told t))
+
+    pub none-better : d ≡ false → b ≡ triedOne s w at b o
+    unfolding triedOne
+    none-better t = sym (pick-no _ _ _ (told t))
+
+  ranked-better : (a o : List ℕ) → triedOne s w at (ranked s w at a) o ≡ ranked s w at (better (at .kind) e x m a o)
+  unfolding triedOne better costOf
+  ranked-better a o =
+      by-case (sooner (cost (at .kind) e x m o) o (cost (at .kind) e x m a) a) (λ t. rw t) (λ t. rw t)
+
+  -- over what is tried for one record
+  module _ (y a : List ℕ) where
+    abbrev pub upto : ℕ → Candidate
+    upto v = ranked s w at (bestTried (at .kind) e x m y a v)
+
+    pub upto-next : {b r : Candidate} {z : List ℕ} (v : ℕ) → b ≡ upto v → z ≡ tried (at .kind) y v → r ≡ triedOne s w at b z → r ≡ upto (v + 1)
+    upto-next v h g q = rw (add-one v) (rw (h, g) at q ∙ ranked-better (bestTried (at .kind) e x m y a v) (tried (at .kind) y v))
+
+    pub upto-all : {b : Candidate} {n : ℕ} (v : ℕ) → n ≡ tries (at .kind) y → v ≡ n → b ≡ upto v → b ≡ ranked s w at (bestAfter s w at y a)
+    unfolding bestAfter
+    upto-all v h g q = q ∙ ap upto (g ∙ h) ∙ ap (ranked s w at) (tries-do (at .kind) e x m y a)
+
+  -- over the records
+  pub best-ranked : {b : Candidate} (i : ℕ) → b ≡ bestAmong s w at i → b ≡ ranked s w at (b .overall)
+  unfolding bestAmong
+  best-ranked i h = rw h
+
+  module _ (j : ℕ) (l : at .first ≤ j) where
+    abbrev n : ℕ
+    n = j - at .first
+
+    at-j : at .first + n ≡ j
+    at-j = omega arith
+
+    pub record-again : {b : Candidate} {d : Bool} → b ≡ bestAmong s w at n → d ≡ repeated w (at .first) j → d ≡ true → b ≡ bestAmong s w at (suc n)
+    unfolding bestAmong repeated
+    record-again h g t =
+        let f = like w (at .first) j in
+        let i = firstBelow f n in
+        let u = ltb-true i n (sym g ∙ t) in
+        let q : x i ≡ x n = alike-same (x i) (settingsIn w j) refl refl (first-passes f n u) ∙ ap (settingsIn w) (sym at-j) in
+        h ∙ ap (ranked s w at) (sym (best-again (at .kind) e x m n i u q))
+
+    pub record-new : {b r : Candidate} {y : List ℕ} → b ≡ bestAmong s w at n → y ≡ settingsIn w j → r ≡ ranked s w at (bestAfter s w at y (b .overall)) → r ≡ bestAmong s w at (suc n)
+    unfolding bestAmong bestAfter
+    record-new h g q = q ∙ rw (h, g) (ap (λ (y : List ℕ). ranked s w at (bestTried (at .kind) e x m y (bestOf (at .kind) e x m n) 4)) (ap (settingsIn w) (sym at-j)))
+
+  pub none-chosen : {n : ℕ} → n ≡ costOf s w at silent → n ≤ 1 → silent ≡ overallOf s w at
+  unfolding overallOf overallFor costOf
+  none-chosen h l = sym (best-none (at .kind) e x m (rw (← h) l) m)
+
+  pub first-best : {n : ℕ} → n ≡ costOf s w at silent → record { overall = silent; selects = n } ≡ bestAmong s w at (at .first - at .first)
+  unfolding bestAmong
+  first-best h = let z : at .first - at .first ≡ 0 = omega arith in rw (z, h)
+
+  pub next-best : {b : Candidate} (j : ℕ) → at .first ≤ j → b ≡ bestAmong s w at (suc (j - at .first)) → b ≡ bestAmong s w at (j + 1 - at .first)
+  next-best j l h = let z : j + 1 - at .first ≡ suc (j - at .first) = omega arith in rw z h
+
+  pub all-best : {b : Candidate} (i : ℕ) → i ≡ m → b ≡ bestAmong s w at i → b .overall ≡ overallOf s w at
+  unfolding bestAmong overallOf overallFor
+  all-best i z h = ap (λ (b : Candidate). b .overall) h ∙ ap (bestOf (at .kind) e x m) z

@@ -1,0 +1,10 @@
+pub mod Refusals
+pub mod Loops
+pub mod SlotsByType
+pub mod FirstSlots
+pub mod FirstPage
+pub mod PageReaches
+pub mod BestPage
+pub mod PromiseKept
+pub mod PromiseLaws
+pub mod OneElement

@@ -1,0 +1,154 @@
+-- What one turn of each loop of the builder does, and the overall element that stands at each slot. Assumes nothing.
+use mathlib.Core.Path.{_≡_, refl, sym, ap, _∙_}
+use mathlib.Core.Bool.{Bool, true, false, not}
+use mathlib.Core.List.{List}
+use Prim.Native.Nat.{ℕ, zero, suc, _+_, _*_, _-_, _/_, _<_, _≤_}
+use native.Mathlib.Numerals.{add-one}
+use native.Mathlib.Omega.{arith}
+use lib.Dec.{eqb, ltb}
+use lib.ListN.{length, getD}
+use borrow.Author.Tests.{eqb-true, eqb-false, eq-eqb, le-ltb, ltb-true, ltb-false}
+use Rattle.bits.specs.Choice.{pick, allBelow}
+use Rattle.bits.specs.Bits.{num, bit}
+use Rattle.bits.proofs.Logic.{by-case, pick-yes, pick-no, below-all, below-fails, below-next, fails, first-none, byByteIf}
+use Rattle.element.specs.declared.types.Kind.{Kind}
+use Rattle.element.specs.declared.control.Control.{Control}
+use Rattle.element.specs.Settings.{settingsFormed}
+use Rattle.element.specs.Control.{controlOf}
+use Rattle.build_element.specs.Wishes.{silent, inReach, one}
+use Rattle.build_element.specs.Parts.{selects}
+use Rattle.shelf.specs.Limits.{mostTypes}
+use Rattle.shelf.specs.Types.{typeCount, before, elementsOf, kindAt}
+use Rattle.shelf_formed.specs.Formed.{wellFormed}
+use Rattle.shelf_formed.proofs.ElementTypes.{front-formed}
+use Rattle.shelf.specs.Elements.{settingsAt}
+use Rattle.page.specs.declared.slots.Slot.{Slot}
+use Rattle.page.specs.Slots.{slotsOf, startOf, inType, slotType, isOverall, slotAt}
+use Rattle.page.proofs.SlotsOfFront.{end-there}
+use Rattle.page.proofs.ElementSlots.{start-up, slotted, slot-has}
+use Rattle.page.proofs.SlotTypes.{start-below, type-ends}
+use Rattle.control_page.specs.Brought.{settingsIn}
+use Rattle.build_overall.specs.Choice.{HasWishes, overallOf}
+use Rattle.build_page.specs.Promise.{mayBe}
+use Rattle.build_page.specs.Page.{overallIn, rowUnder, rowFor, selectsFor, reachable}
+use Rattle.build_page.proofs.FirstSlots.{rowFor-row}
+
+-- the tests of a wish, record by record
+pub formed-at : (s w : List ℕ) (j : ℕ) {k : Kind} {x : List ℕ} {d : Bool} → k ≡ kindAt s j → x ≡ settingsIn w j → d ≡ settingsFormed k x → mayBe s w j ≡ d
+formed-at s w j p q h = rw (h, p, q)
+
+pub reach-at : (s w : List ℕ) (j : ℕ) {k : Kind} {e x : List ℕ} {d : Bool} → k ≡ kindAt s j → e ≡ settingsAt s j → x ≡ settingsIn w j → d ≡ inReach k e x
+    → reachable s w j ≡ d
+unfolding reachable
+reach-at s w j p u q h = rw (h, p, u, q)
+
+module _ (f : ℕ → Bool) (n j : ℕ) where
+  pub fails-at : {d : Bool} → f j ≡ d → j < n → d ≡ false → false ≡ allBelow f n
+  fails-at h l t = sym (below-fails f n j l (h ∙ t))
+
+  pub passes-at : {d : Bool} → f j ≡ d → allBelow f j ≡ true → d ≡ true → allBelow f (j + 1) ≡ true
+  passes-at h a t = below-next f j a (h ∙ t)
+
+  pub passes-all : j ≡ n → allBelow f j ≡ true → true ≡ allBelow f n
+  passes-all e a = sym a ∙ ap (allBelow f) e
+
+-- the four bytes of a slot
+module _ (s w : List ℕ) (at : Slot) (o : List ℕ) where
+  pub row-overall : at .overall ≡ true → o ≡ rowUnder s w at o
+  unfolding rowUnder
+  row-overall t = sym (pick-yes _ _ _ t)
+
+  pub row-own : {c : Control} {e x y : List ℕ} → at .overall ≡ false → c ≡ controlOf (at .kind) o → e ≡ settingsAt s (at .first) → x ≡ settingsIn w (at .first)
+      → y ≡ one (at .kind) c e x → y ≡ rowUnder s w at o
+  unfolding rowUnder
+  row-own t hc he hx h = h ∙ rw (t, hc, he, hx)
+
+module _ (s : List ℕ) where
+  -- past the last type
+  past : (i : ℕ) → startOf s mostTypes ≤ i → slotType s i ≡ mostTypes
+  unfolding slotType
+  past i l = first-none (inType s i) mostTypes (below-all (fails (inType s i)) mostTypes not-in)
+    where
+      not-in : (t : ℕ) → t < mostTypes → fails (inType s i) t ≡ true
+      not-in t h =
+          let e : t + 1 + (mostTypes - (t + 1)) ≡ mostTypes = omega arith in
+          let u : startOf s (t + 1) ≤ startOf s mostTypes = rw e at (start-up s (t + 1) (mostTypes - (t + 1))) in
+          ap not (le-ltb i (startOf s (t + 1)) (omega arith))
+
+  -- only at an overall element does the type change
+  same-type : (i : ℕ) → isOverall s (suc i) ≡ false → slotType s i ≡ slotType s (suc i)
+  unfolding isOverall
+  same-type i h =
+      let u = slotType s (suc i) in
+      let b = start-below s (suc i) in
+      let d = eqb-false (suc i) (startOf s u) h in
+      by-case (ltb u mostTypes) (λ t. within (ltb-true u mostTypes t) (omega (arith, b, d))) (λ t. behind (ltb-false u mostTypes t) (omega (arith, b, d)))
+    where
+      within : slotType s (suc i) < mostTypes → startOf s (slotType s (suc i)) ≤ i → slotType s i ≡ slotType s (suc i)
+      within l g =
+          let u = slotType s (suc i) in
+          let e = type-ends s (suc i) l in
+          slotted s u i l g (omega (arith, e))
+
+      behind : mostTypes ≤ slotType s (suc i) → startOf s (slotType s (suc i)) ≤ i → slotType s i ≡ slotType s (suc i)
+      behind l g =
+          let u = slotType s (suc i) in
+          let e : mostTypes + (u - mostTypes) ≡ u = omega arith in
+          let a : startOf s mostTypes ≤ startOf s u = rw e at (start-up s mostTypes (u - mostTypes)) in
+          past i (omega arith) ∙ sym (past (suc i) (omega arith))
+
+  -- a page starts with one
+  starts : isOverall s 0 ≡ true
+  unfolding isOverall
+  starts = eq-eqb 0 (startOf s (slotType s 0)) (omega (arith, start-below s 0))
+
+  module _ (w : List ℕ) where
+    -- the overall element that stands before slot i, slot by slot
+    abbrev pub standing : ℕ → List ℕ
+    standing zero = silent
+    standing (suc i) = pick (slotAt s i .overall) (overallOf s w (slotAt s i)) (standing i)
+
+    overall-here : (i : ℕ) → isOverall s i ≡ true → overallOf s w (slotAt s i) ≡ overallIn s w (slotType s i)
+    unfolding overallOf overallIn slotAt isOverall startOf
+    overall-here i h =
+        let t = slotType s i in
+        let e = eqb-true i (startOf s t) h in
+        let a : i - t ≡ before s t = omega (arith, e) in
+        let b : before s t + typeCount s t - before s t ≡ typeCount s t = omega arith in
+        rw (h, a, b)
+
+    stands : (i : ℕ) → standing (suc i) ≡ overallIn s w (slotType s i)
+    unfolding slotAt
+    stands zero = pick-yes _ _ _ starts ∙ overall-here 0 starts
+    stands (suc i) =
+        let h = stands i in
+        by-case (isOverall s (suc i)) (λ t. pick-yes _ _ _ t ∙ overall-here (suc i) t)
+        (λ t. pick-no _ _ _ t ∙ h ∙ ap (overallIn s w) (same-type i t))
+
+    -- what a turn puts
+    pub row-next : (i : ℕ) {at : Slot} {o p y : List ℕ} → at ≡ slotAt s i → o ≡ standing i → p ≡ pick (at .overall) (overallOf s w at) o → y ≡ rowUnder s w at p
+        → (p ≡ standing (i + 1)) × (y ≡ rowFor s w i)
+    unfolding rowFor
+    row-next i {p = p} ha ho hp hy =
+        let q : p ≡ standing (suc i) = hp ∙ rw (ha, ho) in
+        (rw (add-one i) q, hy ∙ rw ha (ap (rowUnder s w (slotAt s i)) (q ∙ stands i)))
+
+    -- and counts
+    byte-counts : (b : ℕ) → b < 256 → b / 128 ≡ num (bit 7 b)
+    byte-counts b h = eqb-true (b / 128) (num (bit 7 b)) (byByteIf (λ x. true) (λ x. eqb (x / 128) (num (bit 7 x))) refl b h refl)
+
+    pub row-counts : (i : ℕ) {y : List ℕ} → y ≡ rowFor s w i → (getD y 0 0 / 128 ≡ selects (rowFor s w i)) × (getD y 0 0 / 128 ≤ 1)
+    row-counts i {y} h =
+        let b = getD (rowFor s w i) 0 0 in
+        let l = rowFor-row s w i .1 0 in
+        rw h (byte-counts b l, omega arith)
+
+    pub count-next : (i : ℕ) {n : ℕ} {y : List ℕ} → n ≡ selectsFor s w i → y ≡ rowFor s w i → n + getD y 0 0 / 128 ≡ selectsFor s w (i + 1)
+    count-next i h g = rw (add-one i) (omega (arith, h, row-counts i g .0))
+
+-- what is read for a slot: the elements that it is for, stored and wanted
+pub slot-wishes : (s w : List ℕ) → wellFormed s ≡ true → 4 * elementsOf s ≤ length w → (i : ℕ) → i < slotsOf s → {at : Slot} → at ≡ slotAt s i
+    → HasWishes s w at
+slot-wishes s w f m i l {at} e =
+    let b : at .end ≡ slotAt s i .end = ap (λ (x : Slot). x .end) e in
+    (slot-has s f i l e, omega (arith, b, m, end-there s (front-formed s f) i l))

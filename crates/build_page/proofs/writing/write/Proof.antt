@@ -1,0 +1,47 @@
+-- `build_page::writing::write` meets its contract. Assumes nothing.
+use mathlib.Core.Path.{refl}
+use native.Mathlib.Omega.{arith}
+use denote.Ref.{now}
+use Rattle.page.proofs.SlotBounds.{shelf-there}
+use Rattle.page.proofs.HeaderTests.{head-length}
+use Rattle.build_page.proofs.Refusals.{no-room, page-built, page-left}
+use borrow.Author.Needs.{needs}
+use Rattle.build_page.proofs.writing.write.Statement.{statement}
+use Rattle.build_page.proofs.writing.write.Tie as tie
+
+count-requires : tie.Need-count-requires
+count-requires c κs = let q = c .before .before .before in shelf-there (now (q .args .shelf)) (q .pre .0) .1
+
+slot-place-requires : tie.Need-slot-place-requires
+slot-place-requires c κs = search needs
+
+cast-if1 : tie.Need-cast-if1
+cast-if1 c = search needs
+
+returns : tie.Need-returns
+returns c = let s = c .before .before .before .before .before .before .args in (no-room (now (s .shelf)) (now (s .wanted)) (now (s .out)) (c .before .before .count .ensures) (c .before .slot-place .ensures) (c .if1 .taken), refl)
+
+put-requires : tie.Need-put-requires
+put-requires c κs = let q = c .before .before .before .before .before .before .before in (shelf-there (now (q .args .shelf)) (q .pre .0) .1, omega (arith, c .before .before .slot-place .ensures, c .before .if1 .left))
+
+put-slots-requires : tie.Need-put-slots-requires
+put-slots-requires c κs = let q = c .before .before .before .before .before .before .before .before .before .before .before in let s = now (q .args .shelf) in ((q .pre .0, omega (arith, c .before .before .before .before .before .before .before .count .ensures, c .before .before .before .before .before .before .slot-place .ensures, c .before .before .before .before .before .if1 .left, head-length s (now (q .args .out)) 2 0 _ (c .before .before .before .put .ensures))), (c .before .before .before .before .before .before .before .count .ensures, q .pre .1))
+
+same-length : tie.Need-same-length
+same-length c = search needs
+
+returns-2 : tie.Need-returns-2
+returns-2 c = let s = c .before .before .before .before .before .before .before .before .before .before .before .before .before .before .args in let e = c .before .before .before .before .before .before .before .before .before .before .count .ensures in let p = c .before .before .before .before .before .before .before .before .before .slot-place .ensures in let l = c .before .before .before .before .before .before .before .before .if1 .left in (page-built (now (s .shelf)) (now (s .wanted)) (now (s .out)) e p l (c .before .before .put-slots .ensures .0), page-left (now (s .shelf)) (now (s .wanted)) (now (s .out)) e p l (c .before .before .put-slots .result) (c .before .before .before .before .before .before .put .ensures) (c .before .before .put-slots .ensures .1))
+
+pub write-spec : {M : Type 1} → statement M
+write-spec =
+    tie.close
+    (tie.spec
+    count-requires
+    slot-place-requires
+    cast-if1
+    returns
+    put-requires
+    put-slots-requires
+    same-length
+    returns-2)

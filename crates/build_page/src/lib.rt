@@ -1,0 +1,23 @@
+// The control page for a wish: the fewest SELECTs, overall ones counted, and the first in the dictionary of those.
+pub mod built;
+pub mod testing;
+pub mod writing;
+
+use built::Built;
+use refusals::Answer;
+use refusals::Refusal;
+use shelf::types;
+ghost use Rattle.build_page.specs.Promise.{Promised};
+
+pub fn build(shelf: &[u8], wanted: &[u8], out: &mut [u8]) -> Built
+    ensures { λ r. ⌜ Promised (now (shelf .entry)) (now (wanted .entry)) (now (out .entry)) r (now (out .exit)) ⌝ }
+{
+    let tested = testing::wish(shelf, wanted);
+    let Answer::Accepted = tested else {
+        return Built::refused(tested);
+    };
+    if !testing::reach(shelf, wanted, types::all_elements(shelf)) {
+        return Built::Refused(Refusal::Unreachable);
+    }
+    writing::write(shelf, wanted, out)
+}

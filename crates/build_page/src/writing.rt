@@ -1,0 +1,94 @@
+// The page, slot after slot.
+use crate::built::Built;
+use control_page::testing;
+use element::control::Control;
+use page::header;
+use page::slots;
+use page::slots::Slot;
+use refusals::Refusal;
+use shelf::elements;
+ghost use mathlib.Core.Path.{_≡_};
+ghost use mathlib.Core.Bool.{true};
+ghost use Prim.Native.Nat.{_*_, _≤_};
+ghost use lib.ListN.{length};
+ghost use Rattle.bits.specs.Choice.{pick};
+ghost use Rattle.shelf.specs.Types.{elementsOf};
+ghost use Rattle.shelf_formed.specs.Formed.{wellFormed};
+ghost use Rattle.build_overall.specs.Choice.{HasWishes, overallOf};
+ghost use Rattle.page.specs.Slots.{slotsOf, slotsPut};
+ghost use Rattle.page.specs.Header.{HasPage};
+ghost use Rattle.build_page.specs.Outcome.{builtOf, leftBy};
+ghost use Rattle.build_page.specs.Page.{rowUnder, rowFor, selectsFor, controlPage};
+
+// The overall element that stands from this slot on.
+fn overall(shelf: &[u8], wanted: &[u8], at: Slot, standing: [u8; 4]) -> [u8; 4]
+    requires { ⌜ HasWishes (now shelf) (now wanted) at ⌝ }
+    ensures { λ r. ⌜ r ≡ pick (at .overall) (overallOf (now (shelf .entry)) (now (wanted .entry)) at) standing ⌝ }
+{
+    if at.overall {
+        build_overall::overall(shelf, wanted, at)
+    } else {
+        standing
+    }
+}
+
+// The four bytes of a slot, where this is the overall element of its type.
+fn row(shelf: &[u8], wanted: &[u8], at: Slot, overall: [u8; 4]) -> [u8; 4]
+    requires { ⌜ HasWishes (now shelf) (now wanted) at ⌝ }
+    ensures { λ r. ⌜ r ≡ rowUnder (now (shelf .entry)) (now (wanted .entry)) at overall ⌝ }
+{
+    if at.overall {
+        return overall;
+    }
+    let kind = at.kind;
+    build_element::one(
+        kind,
+        Control::of(kind, overall),
+        elements::settings_at(shelf, at.first),
+        build_overall::wanted_at(wanted, at.first),
+    )
+}
+
+// Puts the first n slots, and tells their SELECTs. The overall element of a type is searched where the type starts, and carried on to
+// its elements: `over`, which takes a call's result by way of a variable.
+fn put_slots(shelf: &[u8], wanted: &[u8], out: &mut [u8], n: u16) -> u32
+    requires { ⌜ HasPage (now shelf) (now out) ⌝ }
+    requires { ⌜ n ≡ slotsOf (now shelf) ⌝ }
+    requires { ⌜ 4 * elementsOf (now shelf) ≤ length (now wanted) ⌝ }
+    ensures { λ r. ⌜ r ≡ selectsFor (now (shelf .entry)) (now (wanted .entry)) n ⌝ }
+    ensures { λ _. ⌜ now (out .exit) ≡ slotsPut (rowFor (now (shelf .entry)) (now (wanted .entry))) (now (out .entry)) n ⌝ }
+{
+    let mut sum: u32 = 0;
+    let mut over = build_element::SILENT;
+    let mut run = slots::first_run();
+    let mut i: u16 = 0;
+    while i < n {
+        let here = slots::run_to(shelf, run, i);
+        run = here;
+        let at = slots::slot_in(here, i);
+        let current = overall(shelf, wanted, at, over);
+        over = current;
+        let bytes = row(shelf, wanted, at, current);
+        bits::put_four(out, slots::slot_place(i), bytes);
+        sum += (bytes[0] >> 7) as u32;
+        i += 1;
+    }
+    sum
+}
+
+// Writes the page if the output buffer holds it.
+pub fn write(shelf: &[u8], wanted: &[u8], out: &mut [u8]) -> Built
+    requires { ⌜ wellFormed (now shelf) ≡ true ⌝ }
+    requires { ⌜ 4 * elementsOf (now shelf) ≤ length (now wanted) ⌝ }
+    ensures { λ r. ⌜ r ≡ builtOf (controlPage (now (shelf .entry)) (now (wanted .entry))) (selectsFor (now (shelf .entry)) (now (wanted .entry)) (slotsOf (now (shelf .entry)))) (now (out .entry)) ⌝ }
+    ensures { λ r. ⌜ now (out .exit) ≡ leftBy r (controlPage (now (shelf .entry)) (now (wanted .entry))) (now (out .entry)) ⌝ }
+{
+    let n = slots::count(shelf);
+    let bytes = slots::slot_place(n);
+    if out.len() < bytes as usize {
+        return Built::Refused(Refusal::OutputTooShort);
+    }
+    header::put(shelf, out, testing::CODE, 0, n);
+    let selects = put_slots(shelf, wanted, out, n);
+    Built::Page { bytes, selects }
+}

@@ -1,3 +1,0 @@
-// The configuration page: written from the front of a shelf block, and read as a configuration, which is such a front.
-pub mod page;
-pub mod reading;

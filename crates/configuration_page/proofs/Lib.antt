@@ -1,0 +1,11 @@
+pub mod WideRows
+pub mod Loops
+pub mod RowsPut
+pub mod Refusals
+pub mod FirstOffence
+pub mod AcceptedPage
+pub mod TextStarts
+pub mod PlacesOnPage
+pub mod WrittenAndRead
+pub mod PlacesInConfiguration
+pub mod ReadAndRewritten

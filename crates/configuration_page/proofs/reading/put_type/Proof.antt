@@ -1,0 +1,61 @@
+-- `configuration_page::reading::put_type` meets its contract. Assumes nothing.
+use denote.Ref.{now}
+use Rattle.configuration_page.proofs.AcceptedPage.{headers-in}
+use Rattle.configuration_page.proofs.TextStarts.{head-length, told-short, told-in, text-done}
+use Rattle.configuration_page.proofs.Loops.{type-done}
+use borrow.Author.Needs.{needs}
+use Rattle.configuration_page.proofs.reading.put_type.Statement.{statement}
+use Rattle.configuration_page.proofs.reading.put_type.Tie as tie
+
+head-told-requires : tie.Need-head-told-requires
+head-told-requires c κs = let s = c .before .before in headers-in (now (s .args .page)) (s .pre .0)
+
+array-read-bytes : tie.Need-array-read-bytes
+array-read-bytes c = search needs
+
+cast-bytes : tie.Need-cast-bytes
+cast-bytes c = search needs
+
+text-told-requires : tie.Need-text-told-requires
+text-told-requires c κs = let s = c .before .before .before in let p = now (s .args .page) in let n = head-length p (s .args .t) (c .head-told .ensures) in (rw (n, s .pre .1 .1 .0) (told-in p (s .pre .0) (s .args .t) (s .pre .1 .0)), rw n (told-short p (s .pre .0) (s .args .t)))
+
+type-place-requires : tie.Need-type-place-requires
+type-place-requires c κs = search needs
+
+put-four-requires : tie.Need-put-four-requires
+put-four-requires c κs = search needs
+
+slice-aggregate-copy : tie.Need-slice-aggregate-copy
+slice-aggregate-copy c = search needs
+
+text-place-requires : tie.Need-text-place-requires
+text-place-requires c κs = search needs
+
+cast-copy : tie.Need-cast-copy
+cast-copy c = search needs
+
+copy-requires : tie.Need-copy-requires
+copy-requires c κs = search needs
+
+same-length : tie.Need-same-length
+same-length c = search needs
+
+returns : tie.Need-returns
+returns c = let s = c .before .before .before .before .before .before .before .before .before .before .before .before .before .before .before in let p = now (s .args .page) in let h = c .before .before .before .before .before .before .before .before .before .before .before .before .head-told .ensures in let n = head-length p (s .args .t) h in (n, type-done p (s .args .t) (now (s .args .configuration)) h (text-done p (s .pre .0) (s .args .t) (s .pre .1 .1 .0) n (c .before .before .before .before .before .before .before .before .before .before .before .text-told .ensures)) (c .before .before .before .before .before .before .before .before .before .type-place .ensures) (c .before .before .before .before .before .before .before .before .put-four .ensures) (c .before .before .before .text-place .ensures) (c .before .before .copy .ensures))
+
+pub put-type-spec : {M : Type 1} → statement M
+put-type-spec =
+    tie.close
+    (tie.spec
+    head-told-requires
+    array-read-bytes
+    cast-bytes
+    text-told-requires
+    type-place-requires
+    put-four-requires
+    slice-aggregate-copy
+    text-place-requires
+    cast-copy
+    copy-requires
+    same-length
+    returns)

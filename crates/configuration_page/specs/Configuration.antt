@@ -1,0 +1,54 @@
+-- The configuration that a page p tells: the front that a shelf with this page has. Assumes nothing.
+use mathlib.Core.List.{List, [], _∷_, _++_}
+use Prim.Native.Nat.{ℕ, zero, suc, _+_}
+use lib.Dec.{ltb}
+use lib.ListN.{getD}
+use Rattle.bits.specs.Choice.{pick, sumBelow}
+use Rattle.bits.specs.Places.{fourAt, putFour}
+use Rattle.bits.specs.Rows.{joined, bytesAt, putBytes}
+use Rattle.shelf.specs.Limits.{mostTypes, mostText, typePlace, textPlace}
+use Rattle.configuration_page.specs.Page.{headerPlace}
+use Rattle.configuration_page.specs.Read.{typesOn, headerByte, textPlaceOn}
+
+-- byte j of the header of type t, zero past the last type
+unfoldable pub toldByte : List ℕ → ℕ → ℕ → ℕ
+toldByte p j t = pick (ltb t (typesOn p)) (headerByte p j t) 0
+
+-- where the text of type t starts; past the last type, where all texts end
+unfoldable pub toldStart : List ℕ → ℕ → ℕ
+toldStart p t = headerPlace (typesOn p) + sumBelow (toldByte p 3) t
+
+-- byte i of the text of type t, zero past its end
+unfoldable pub textByte : List ℕ → ℕ → ℕ → ℕ
+textByte p t i = pick (ltb i (toldByte p 3 t)) (getD p (textPlaceOn p t + i) 0) 0
+
+abbrev pub oneTold : List ℕ → ℕ → ℕ → List ℕ
+oneTold p t i = textByte p t i ∷ []
+
+-- code, count, text length, a zero byte
+unfoldable pub headTold : List ℕ → ℕ → List ℕ
+headTold p t = toldByte p 0 t ∷ toldByte p 1 t ∷ toldByte p 3 t ∷ 0 ∷ []
+
+unfoldable pub textTold : List ℕ → ℕ → List ℕ
+textTold p t = joined (oneTold p t) mostText
+
+unfoldable pub typeTold : List ℕ → ℕ → List ℕ
+typeTold p t = headTold p t ++ textTold p t
+
+-- generation code, identification, number of types, three zeros, and the types
+unfoldable pub configurationOf : List ℕ → List ℕ
+configurationOf p = fourAt p 4 ++ bytesAt p 12 36 ++ (typesOn p ∷ 0 ∷ 0 ∷ 0 ∷ []) ++ joined (typeTold p) mostTypes
+
+-- the parts put into a list, one after the other; each row only where it fits
+unfoldable pub typePut : List ℕ → ℕ → List ℕ → List ℕ
+typePut p t c = putBytes (putFour c (typePlace t) (headTold p t)) (textPlace t) (textTold p t)
+
+abbrev pub typesPut : List ℕ → List ℕ → ℕ → List ℕ
+typesPut p c zero = c
+typesPut p c (suc t) = typePut p t (typesPut p c t)
+
+unfoldable pub configurationPut : List ℕ → List ℕ → List ℕ
+configurationPut p c =
+    typesPut p
+    (putFour (putBytes (putFour c 0 (fourAt p 4)) 4 (bytesAt p 12 36)) 40 (typesOn p ∷ 0 ∷ 0 ∷ 0 ∷ []))
+    mostTypes

@@ -1,0 +1,4 @@
+pub mod Tests
+pub mod PageActs
+pub mod ValidPage
+pub mod Changes

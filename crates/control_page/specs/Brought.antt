@@ -1,0 +1,36 @@
+-- What a control page brings a shelf to. Assumes nothing.
+use mathlib.Core.List.{List}
+use Prim.Native.Nat.{ℕ, _*_}
+use Rattle.bits.specs.Places.{fourAt, foursPut}
+use Rattle.bits.specs.Rows.{joined}
+use Rattle.element.specs.declared.control.Control.{Control}
+use Rattle.element.specs.Control.{controlOf, chosen, settled}
+use Rattle.shelf.specs.Limits.{elementPlace}
+use Rattle.shelf.specs.Types.{elementsOf}
+use Rattle.shelf.specs.Elements.{settingsAt}
+use Rattle.page.specs.declared.places.Places.{Places}
+use Rattle.page.specs.Places.{placesOf}
+
+-- the control element that acts on an element with these slots
+abbrev pub actingAt : List ℕ → Places → Control
+actingAt p at = chosen (controlOf (at .kind) (fourAt p (at .overall))) (controlOf (at .kind) (fourAt p (at .own)))
+
+-- the settings of element j after the page, as the shelf stores them
+unfoldable pub settingsAfter : List ℕ → List ℕ → ℕ → List ℕ
+settingsAfter s p j = settled (placesOf s j .kind) (actingAt p (placesOf s j)) (settingsAt s j)
+
+-- the settings that the page brings the shelf to: four bytes for each element, in the order of the elements
+unfoldable pub broughtTo : List ℕ → List ℕ → List ℕ
+broughtTo s p = joined (settingsAfter s p) (elementsOf s)
+
+-- the settings that a shelf has, in the same form
+abbrev pub storedSettings : List ℕ → List ℕ
+storedSettings s = joined (settingsAt s) (elementsOf s)
+
+-- the four bytes of element j in such a list
+abbrev pub settingsIn : List ℕ → ℕ → List ℕ
+settingsIn w j = fourAt w (4 * j)
+
+-- the shelf with these settings
+unfoldable pub withSettings : List ℕ → List ℕ → List ℕ
+withSettings s w = foursPut elementPlace (settingsIn w) s (elementsOf s)

@@ -1,0 +1,3 @@
+pub mod TypeArms
+pub mod SettingsBothWays
+pub mod Acting

@@ -1,0 +1,2 @@
+pub mod SignedLimits
+pub mod ThresholdsTaken

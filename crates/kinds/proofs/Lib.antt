@@ -1,3 +1,0 @@
-pub mod Arms
-pub mod Back
-pub mod Settled

@@ -1,0 +1,43 @@
+-- Shelves with the same front have the same pages for them: slots, header, tests. Assumes nothing.
+use mathlib.Core.Path.{_≡_, ap, _∙_}
+use mathlib.Core.Bool.{true}
+use mathlib.Core.List.{List}
+use Prim.Native.Nat.{ℕ, _<_}
+use native.Mathlib.Omega.{arith}
+use lib.Dec.{eqb, leb}
+use lib.ListN.{length, getD}
+use Rattle.refusals.specs.declared.Refusal.the-variants.{PageTooShort, PageCode, PageLength, Generation}
+use Rattle.refusals.specs.declared.Answer.the-variants.{Accepted}
+use Rattle.refusals.specs.Outcomes.{unless}
+use Rattle.shelf_formed.specs.Formed.{frontFormed, wellFormed}
+use Rattle.shelf_formed.proofs.FrontOfShelf.{front, front-get, alike, front-alike}
+use Rattle.page.specs.Slots.{slotsOf, slotAt, slotPlace}
+use Rattle.page.specs.Header.{lengthSaid, generationOn, generationOf, headed, pageTested}
+use Rattle.page.proofs.SlotsOfFront.{slots-same, slot-same}
+
+generation-same : (s : List ℕ) → generationOf (front s) ≡ generationOf s
+generation-same s = rw (front-get s 0 (omega arith), front-get s 1 (omega arith), front-get s 2 (omega arith), front-get s 3 (omega arith))
+
+module _ (s x : List ℕ) (e : front x ≡ front s) where
+  pub slots-alike : slotsOf x ≡ slotsOf s
+  slots-alike = alike s x e slotsOf (slots-same x) (slots-same s)
+
+  pub slot-alike : frontFormed s ≡ true → (i : ℕ) → i < slotsOf s → slotAt x i ≡ slotAt s i
+  slot-alike w i l =
+      alike s x e (λ (c : List ℕ). slotAt c i) (slot-same x (front-alike s x e ∙ w) i (rw slots-alike l)) (slot-same s w i l)
+
+  module _ (p : List ℕ) (code : ℕ) where
+    headed-alike : (n : ℕ) → headed x p code n ≡ headed s p code n
+    unfolding headed
+    headed-alike n =
+        ap
+        (λ (g : ℕ).
+        unless (leb 4 (length p)) PageTooShort
+        (unless (eqb (getD p 0 0) code) PageCode
+        (unless (lengthSaid p) PageLength
+        (unless (eqb (length p) (slotPlace n)) PageLength (unless (eqb (generationOn p) g) Generation Accepted)))))
+        (alike s x e generationOf (generation-same x) (generation-same s))
+
+    pub asked-alike : wellFormed s ≡ true → wellFormed x ≡ true → pageTested x p code ≡ pageTested s p code
+    unfolding pageTested
+    asked-alike w v = rw (w, v, slots-alike) (headed-alike (slotsOf s))

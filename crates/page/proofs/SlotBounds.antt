@@ -1,0 +1,35 @@
+-- How many slots a page of a well-formed shelf or configuration has. Assumes nothing.
+use mathlib.Core.Path.{_≡_}
+use mathlib.Core.Bool.{true}
+use mathlib.Core.List.{List}
+use Prim.Native.Nat.{ℕ, _+_, _≤_}
+use native.Mathlib.Omega.{arith}
+use lib.Dec.{eqb}
+use lib.ListN.{length}
+use borrow.Author.Tests.{eqb-true}
+use Rattle.bits.proofs.Logic.{and-left, and-right}
+use Rattle.shelf.specs.Limits.{mostTypes, mostElements, elementPlace}
+use Rattle.shelf_formed.specs.Formed.{frontFormed, HasFront, wellFormed, configurationFormed}
+use Rattle.shelf_formed.proofs.FormedShelf.{few-types, few-elements}
+use Rattle.shelf_formed.proofs.ElementTypes.{front-formed}
+use Rattle.shelf_formed.proofs.ElementPut.{length-formed}
+use Rattle.page.specs.Slots.{slotsOf}
+
+module _ (c : List ℕ) where
+  pub configuration-front : configurationFormed c ≡ true → frontFormed c ≡ true
+  unfolding configurationFormed
+  configuration-front h = and-left (frontFormed c) (eqb (length c) (elementPlace 0)) h
+
+  -- of a shelf and of a configuration all types are there
+  pub shelf-there : wellFormed c ≡ true → HasFront c
+  shelf-there h = (front-formed c h, omega (arith, length-formed c h))
+
+  pub configuration-there : configurationFormed c ≡ true → HasFront c
+  unfolding configurationFormed
+  configuration-there h =
+      (configuration-front h, omega (arith, eqb-true (length c) (elementPlace 0) (and-right (frontFormed c) (eqb (length c) (elementPlace 0)) h)))
+
+  module _ (h : frontFormed c ≡ true) where
+    pub slots-bound : slotsOf c ≤ mostTypes + mostElements
+    unfolding slotsOf
+    slots-bound = omega (arith, few-types c h, few-elements c h)

@@ -1,0 +1,26 @@
+-- `page::testing::shelf` meets its contract. Assumes nothing.
+use mathlib.Core.Path.{sym, _∙_}
+use denote.Ref.{now}
+use Rattle.bits.proofs.Logic.{pick-yes, pick-no}
+use Rattle.shelf_formed.proofs.Opening.{formed-sizes, not-formed}
+use borrow.Author.Needs.{needs}
+use Rattle.page.proofs.testing.shelf.Statement.{statement}
+use Rattle.page.proofs.testing.shelf.Tie as tie
+
+open-shelf-requires : tie.Need-open-shelf-requires
+open-shelf-requires c κs = search needs
+
+enum-told : tie.Need-enum-told
+enum-told c = search needs
+
+enum-told-2 : tie.Need-enum-told-2
+enum-told-2 c = search needs
+
+returns : tie.Need-returns
+returns c = let s = now (c .before .before .before .before .args .shelf) in sym (pick-no _ _ _ (not-formed s (sym (c .before .before .open-shelf .ensures) ∙ c .enum-told2 .given .1)))
+
+returns-2 : tie.Need-returns-2
+returns-2 c = let s = now (c .before .before .before .before .args .shelf) in sym (pick-yes _ _ _ (formed-sizes s (sym (c .before .before .open-shelf .ensures) ∙ c .enum-told .given .1) .0))
+
+pub shelf-spec : {M : Type 1} → statement M
+shelf-spec = tie.close (tie.spec open-shelf-requires enum-told enum-told-2 returns returns-2)

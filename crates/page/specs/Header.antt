@@ -1,0 +1,59 @@
+-- The first tests of a call, and the header of the pages 02h and 05h. Assumes nothing.
+use mathlib.Core.Path.{_≡_}
+use mathlib.Core.Bool.{Bool, true}
+use mathlib.Core.List.{List, _∷_, _++_}
+use Prim.Native.Nat.{ℕ, _+_, _-_, _≤_}
+use lib.Dec.{eqb, leb}
+use lib.ListN.{length, getD}
+use Rattle.bits.specs.Numbers.{big, bytes}
+use Rattle.bits.specs.Places.{twoAt, fourAt, putFour}
+use Rattle.refusals.specs.declared.Refusal.the-variants.{ShelfNotWellFormed, PageTooShort, PageCode, PageLength, Generation}
+use Rattle.refusals.specs.declared.Answer.{Answer}
+use Rattle.refusals.specs.declared.Answer.the-variants.{Accepted}
+use Rattle.refusals.specs.Outcomes.{unless, next}
+use Rattle.shelf_formed.specs.Formed.{wellFormed, configurationFormed}
+use Rattle.page.specs.Slots.{slotsOf, slotPlace}
+
+-- 1: the shelf record is not well formed
+abbrev pub shelfTested : List ℕ → Answer
+shelfTested s = unless (wellFormed s) ShelfNotWellFormed Accepted
+
+-- the same of the configuration that readers take type list and generation from
+abbrev pub configurationTested : List ℕ → Answer
+configurationTested c = unless (configurationFormed c) ShelfNotWellFormed Accepted
+
+-- the bytes given are page length + 4
+unfoldable pub lengthSaid : List ℕ → Bool
+lengthSaid p = eqb (length p) (big (twoAt p 2) + 4)
+
+-- the generation code, on a page and in a configuration
+abbrev pub generationOn : List ℕ → ℕ
+generationOn p = big (fourAt p 4)
+
+abbrev pub generationOf : List ℕ → ℕ
+generationOf c = big (fourAt c 0)
+
+-- 2: fewer than 4 bytes; 3: another page code; 4: not page length + 4 bytes, or not those that n slots need; 5: another generation
+unfoldable pub headed : List ℕ → List ℕ → ℕ → ℕ → Answer
+headed c p code n =
+    unless (leb 4 (length p)) PageTooShort
+    (unless (eqb (getD p 0 0) code) PageCode
+    (unless (lengthSaid p) PageLength
+    (unless (eqb (length p) (slotPlace n)) PageLength
+    (unless (eqb (generationOn p) (generationOf c)) Generation Accepted))))
+
+-- 1 to 5: the shelf, and the header of a page for it
+unfoldable pub pageTested : List ℕ → List ℕ → ℕ → Answer
+pageTested s p code = next (shelfTested s) (headed s p code (slotsOf s))
+
+-- the shelf is well formed, and the page has the bytes of all its slots
+abbrev pub HasPage : List ℕ → List ℕ → Type 0
+HasPage s p = (wellFormed s ≡ true) × (slotPlace (slotsOf s) ≤ length p)
+
+-- byte 0 the code, byte 1 the page's own, bytes 2 and 3 length minus 4, bytes 4 to 7 the generation code
+unfoldable pub header : List ℕ → ℕ → ℕ → ℕ → List ℕ
+header c code own n = code ∷ own ∷ (bytes 2 (slotPlace n - 4) ++ fourAt c 0)
+
+-- the list with the header put into it, each half where it fits
+unfoldable pub headPut : List ℕ → List ℕ → ℕ → ℕ → ℕ → List ℕ
+headPut c out code own n = putFour (putFour out 0 (code ∷ own ∷ bytes 2 (slotPlace n - 4))) 4 (fourAt c 0)

@@ -1,0 +1,53 @@
+// The first eight bytes of the pages 02h and 05h: page code, a byte of the page's own, length, generation code.
+use crate::slots;
+use refusals::Answer;
+use refusals::Refusal;
+use shelf::limits;
+ghost use mathlib.Core.Path.{_≡_};
+ghost use Prim.Native.Nat.{_≤_};
+ghost use lib.ListN.{length};
+ghost use Rattle.shelf.specs.Limits.{HasTypes};
+ghost use Rattle.page.specs.Header.{lengthSaid, headed, headPut};
+
+// The page says its own length.
+pub fn says_its_length(page: &[u8]) -> bool
+    requires { ⌜ 4 ≤ length (now page) ⌝ }
+    ensures { λ r. ⌜ r ≡ lengthSaid (now (page .entry)) ⌝ }
+{
+    page.len() == bits::big16_at(page, 2) as usize + 4
+}
+
+// The tests that come before a page's own: length, page code, and that the page is one for these n slots and of this generation.
+pub fn test(configuration: &[u8], page: &[u8], code: u8, n: u16) -> Answer
+    requires { ⌜ HasTypes (now configuration) ⌝ }
+    ensures { λ r. ⌜ r ≡ headed (now (configuration .entry)) (now (page .entry)) code n ⌝ }
+{
+    if page.len() < 4 {
+        return Answer::Refused(Refusal::PageTooShort);
+    }
+    if bits::byte_at(page, 0) != code {
+        return Answer::Refused(Refusal::PageCode);
+    }
+    if !says_its_length(page) {
+        return Answer::Refused(Refusal::PageLength);
+    }
+    if page.len() != slots::slot_place(n) as usize {
+        return Answer::Refused(Refusal::PageLength);
+    }
+    if bits::big32_at(page, 4) != bits::big32_at(configuration, limits::GENERATION) {
+        return Answer::Refused(Refusal::Generation);
+    }
+    Answer::Accepted
+}
+
+// Writes the header of a page with n slots.
+pub fn put(configuration: &[u8], out: &mut [u8], code: u8, own: u8, n: u16)
+    requires { ⌜ HasTypes (now configuration) ⌝ }
+    requires { ⌜ 8 ≤ length (now out) ⌝ }
+    ensures { λ _. ⌜ now (out .exit) ≡ headPut (now (configuration .entry)) (now (out .entry)) code own n ⌝ }
+{
+    let length = slots::slot_place(n) - 4;
+    let first = [code, own, (length / 256 % 256) as u8, (length % 256) as u8];
+    bits::put_four(out, 0, first);
+    bits::put_four(out, 4, bits::four_at(configuration, limits::GENERATION));
+}

@@ -1,0 +1,172 @@
+-- A shelf after four bytes of each of its first n elements were put anew, from the offset o of an element on. Assumes nothing.
+use mathlib.Core.Path.{_≡_, refl, sym, ap, _∙_}
+use mathlib.Core.Bool.{Bool, true, false, _&&_}
+use mathlib.Core.List.{List}
+use mathlib.Core.Logic.{_⊎_, inl, inr, ⊎-elim}
+use Prim.Native.Nat.{ℕ, _+_, _<_, _≤_, _-_}
+use native.Mathlib.Omega.{arith}
+use lib.Dec.{eqb, ltb}
+use lib.ListN.{length, getD}
+use borrow.Author.Tests.{eq-eqb, ltb-true, ltb-false}
+use Rattle.bits.specs.Choice.{pick, allBelow}
+use Rattle.bits.specs.Numbers.{big}
+use Rattle.bits.specs.Places.{twoAt, fourAt, foursPut}
+use Rattle.bits.proofs.Logic.{by-case, pick-yes, and-right, and-both, below-at, below-all}
+use Rattle.bits.proofs.FourPut.{Outside}
+use Rattle.bits.proofs.FoursPut.{Apart, four-byte, length-fours, byte-kept, four-kept, front-kept, row-back, rows-same}
+use Rattle.element.specs.Types.{readingAllowed, nominalAllowed}
+use Rattle.element.specs.Settings.{settingsFormed}
+use Rattle.element_verdict.specs.Thresholds.{had, ordered}
+use Rattle.shelf.specs.Limits.{elementPlace}
+use Rattle.shelf.specs.Types.{elementsOf, kindAt}
+use Rattle.shelf.specs.Elements.{settingsAt, thresholdsAt, readingAt, nominalAt, spareAt}
+use Rattle.shelf_formed.specs.Formed.{zeros, spareClear, elementFormed, elementsFormed, frontFormed, wellFormed}
+use Rattle.shelf_formed.proofs.ElementPut.{length-formed}
+use Rattle.shelf_formed.proofs.ElementTypes.{front-formed}
+use Rattle.shelf_formed.proofs.FormedShelf.{in-element}
+use Rattle.shelf_formed.proofs.FrontOfShelf.{front, elements-alike, kind-alike, front-alike}
+
+-- a shelf with the same front and length, whose elements have the same reading, nominal and spare bytes
+module _ (s x : List ℕ) (e : front x ≡ front s) (h : length x ≡ length s) (r : (j : ℕ) → readingAt x j ≡ readingAt s j)
+    (m : (j : ℕ) → nominalAt x j ≡ nominalAt s j) (p : (j : ℕ) → spareAt x j ≡ spareAt s j) (w : wellFormed s ≡ true) where
+  spare : (j : ℕ) → j < elementsOf s → spareClear s j ≡ true
+  unfolding wellFormed elementsFormed elementFormed
+  spare j l =
+      let k = kindAt s j in
+      let all = and-right (frontFormed s && eqb (length s) (elementPlace (elementsOf s))) (allBelow (elementFormed s) (elementsOf s)) w in
+      and-right
+      ((((settingsFormed k (settingsAt s j) && had k (thresholdsAt s j)) && ordered k (thresholdsAt s j)) && readingAllowed k (readingAt s j)) && nominalAllowed k (nominalAt s j))
+      (spareClear s j)
+      (below-at (elementFormed s) (elementsOf s) all j l)
+
+  -- an element's settings and thresholds are such as its type may have
+  abbrev Fine : ℕ → Type 0
+  Fine j = (settingsFormed (kindAt s j) (settingsAt x j) ≡ true) × (had (kindAt s j) (thresholdsAt x j) ≡ true) × (ordered (kindAt s j) (thresholdsAt x j) ≡ true)
+
+  element : (j : ℕ) → j < elementsOf s → Fine j → elementFormed x j ≡ true
+  unfolding elementFormed spareClear
+  element j l f =
+      let k = kind-alike s x e j l in
+      let i = in-element s w j l in
+      let settings : settingsFormed (kindAt x j) (settingsAt x j) ≡ true = rw k (f .0) in
+      let has : had (kindAt x j) (thresholdsAt x j) ≡ true = rw k (f .1) in
+      let order : ordered (kindAt x j) (thresholdsAt x j) ≡ true = rw k (f .2) in
+      let reading : readingAllowed (kindAt x j) (readingAt x j) ≡ true = rw (k, r j) (i .3) in
+      let nominal : nominalAllowed (kindAt x j) (nominalAt x j) ≡ true = rw (k, m j) (i .4) in
+      and-both (and-both (and-both (and-both (and-both settings has) order) reading) nominal) (ap zeros (p j) ∙ spare j l)
+
+  formed : ((j : ℕ) → j < elementsOf s → Fine j) → wellFormed x ≡ true
+  unfolding wellFormed elementsFormed
+  formed f =
+      let n : elementsOf x ≡ elementsOf s = elements-alike s x e in
+      and-both
+      (and-both (front-alike s x e ∙ front-formed s w) (eq-eqb (length x) (elementPlace (elementsOf x)) (h ∙ length-formed s w ∙ ap elementPlace (sym n))))
+      (below-all (elementFormed x) (elementsOf x) (λ j b. let l : j < elementsOf s = rw n at b in element j l (f j l)))
+
+module _ (at : ℕ → ℕ) (o : ℕ) (place : (j : ℕ) → at j ≡ elementPlace j + o) (low : o + 4 ≤ 8) where
+  -- bytes of an element beside the four are beside those of every element
+  beside : (j q w : ℕ) → q + w ≤ 16 → (q + w ≤ o) ⊎ (o + 4 ≤ q) → (k : ℕ) → (elementPlace j + q + w ≤ at k) ⊎ (at k + 4 ≤ elementPlace j + q)
+  beside j q w l h k =
+      by-case (ltb j k)
+      (λ e. let m = ltb-true j k e in inl (omega (arith, place k)))
+      (λ e.
+      let m = ltb-false j k e in
+      by-case (ltb k j)
+      (λ e2. let n = ltb-true k j e2 in inr (omega (arith, place k)))
+      (λ e2.
+      let n = ltb-false k j e2 in
+      ⊎-elim (λ (a : q + w ≤ o). inl (omega (arith, place k))) (λ (a : o + 4 ≤ q). inr (omega (arith, place k))) h))
+
+  byte-beside : (j q : ℕ) → q < 16 → (q + 1 ≤ o) ⊎ (o + 4 ≤ q) → (k : ℕ) → Outside (elementPlace j + q) (at k)
+  byte-beside j q l h k =
+      ⊎-elim (λ (a : elementPlace j + q + 1 ≤ at k). inl (omega arith)) (λ (a : at k + 4 ≤ elementPlace j + q). inr a)
+      (beside j q 1 (omega arith) h k)
+
+  module _ (f : ℕ → List ℕ) (s : List ℕ) (n : ℕ) where
+    pub front-after : front (foursPut at f s n) ≡ front s
+    front-after = front-kept at f s (elementPlace 0) n (λ k l. omega (arith, place k))
+
+    four-after : (j q : ℕ) → q + 4 ≤ 16 → Apart q o → fourAt (foursPut at f s n) (elementPlace j + q) ≡ fourAt s (elementPlace j + q)
+    four-after j q l h = four-kept at f s n (elementPlace j + q) (λ k m. beside j q 4 l h k)
+
+    -- an element that was not reached yet
+    pub row-later : (j : ℕ) → n ≤ j → fourAt (foursPut at f s n) (at j) ≡ fourAt s (at j)
+    row-later j h = four-kept at f s n (at j) (λ k m. inr (omega (arith, place j, place k)))
+
+    -- an element that was reached
+    row-after : (j : ℕ) → j < n → elementPlace j + 16 ≤ length s → fourAt (foursPut at f s n) (at j) ≡ fourAt (f j) 0
+    row-after j h r = row-back at f s n j h (omega (arith, place j)) (λ k l m. inl (omega (arith, place j, place k)))
+
+    -- an element whose four bytes are the same keeps every byte
+    element-kept : (j : ℕ) → fourAt (foursPut at f s n) (at j) ≡ fourAt s (at j) → (q : ℕ) → q < 16
+        → getD (foursPut at f s n) (elementPlace j + q) 0 ≡ getD s (elementPlace j + q) 0
+    element-kept j e q l =
+        by-case (ltb q o) (λ a. let b = ltb-true q o a in outside (inl (omega arith)))
+        (λ a.
+        let b = ltb-false q o a in
+        by-case (ltb q (o + 4)) (λ c. let d = ltb-true q (o + 4) c in inside b d) (λ c. let d = ltb-false q (o + 4) c in outside (inr d)))
+      where
+        outside : (q + 1 ≤ o) ⊎ (o + 4 ≤ q) → getD (foursPut at f s n) (elementPlace j + q) 0 ≡ getD s (elementPlace j + q) 0
+        outside h = byte-kept at f s n (elementPlace j + q) (λ k m. byte-beside j q l h k)
+
+        inside : o ≤ q → q < o + 4 → getD (foursPut at f s n) (elementPlace j + q) 0 ≡ getD s (elementPlace j + q) 0
+        inside b d =
+            let m : elementPlace j + q ≡ at j + (q - o) = omega (arith, place j) in
+            ap (λ (i : ℕ). getD (foursPut at f s n) i 0) m ∙ four-byte (foursPut at f s n) s (at j) e (q - o) (omega arith) ∙ ap (λ (i : ℕ). getD s i 0) (sym m)
+
+    -- they were put if a test passed, else the shelf is as it was
+    module _ (t : Bool) where
+      abbrev after : List ℕ
+      after = pick t (foursPut at f s n) s
+
+      either : (P : List ℕ → Type 0) → P s → (t ≡ true → P (foursPut at f s n)) → P after
+      either P a b = go t refl
+        where
+          go : (v : Bool) → t ≡ v → P (pick v (foursPut at f s n) s)
+          go true e = b e
+          go false e = a
+
+      pub length-same : length after ≡ length s
+      length-same = either (λ (x : List ℕ). length x ≡ length s) refl (λ e. length-fours at f s n)
+
+      pub front-same : front after ≡ front s
+      front-same = either (λ (x : List ℕ). front x ≡ front s) refl (λ e. front-after)
+
+      pub four-same : (j q : ℕ) → q + 4 ≤ 16 → Apart q o → fourAt after (elementPlace j + q) ≡ fourAt s (elementPlace j + q)
+      four-same j q l h = either (λ (x : List ℕ). fourAt x (elementPlace j + q) ≡ fourAt s (elementPlace j + q)) refl (λ e. four-after j q l h)
+
+      pub reading-same : (j : ℕ) → readingAt after j ≡ readingAt s j
+      unfolding readingAt
+      reading-same j = ap (λ (e : List ℕ). big (twoAt e 0)) (four-same j 8 (omega arith) (inr (omega arith)))
+
+      pub nominal-same : (j : ℕ) → nominalAt after j ≡ nominalAt s j
+      unfolding nominalAt
+      nominal-same j = ap (λ (e : List ℕ). big (twoAt e 0)) (four-same j 10 (omega arith) (inr (omega arith)))
+
+      spare-same : (j : ℕ) → spareAt after j ≡ spareAt s j
+      unfolding spareAt
+      spare-same j = four-same j 12 (omega arith) (inr (omega arith))
+
+      -- what was put is read back
+      pub row-put : t ≡ true → (j : ℕ) → j < n → elementPlace j + 16 ≤ length s → fourAt after (at j) ≡ fourAt (f j) 0
+      row-put e j l r = ap (λ (x : List ℕ). fourAt x (at j)) (pick-yes t (foursPut at f s n) s e) ∙ row-after j l r
+
+      -- an element whose four bytes would be the same keeps every byte
+      pub element-same : (j : ℕ) → (t ≡ true → fourAt after (at j) ≡ fourAt s (at j)) → (q : ℕ) → q < 16
+          → getD after (elementPlace j + q) 0 ≡ getD s (elementPlace j + q) 0
+      element-same j h q l =
+          either (λ (x : List ℕ). getD x (elementPlace j + q) 0 ≡ getD s (elementPlace j + q) 0) refl
+          (λ e. element-kept j (ap (λ (x : List ℕ). fourAt x (at j)) (sym (pick-yes t (foursPut at f s n) s e)) ∙ h e) q l)
+
+      -- nothing is put that does not stand already
+      pub rows-unmoved : (t ≡ true → (j : ℕ) → j < n → fourAt (f j) 0 ≡ fourAt s (at j)) → after ≡ s
+      rows-unmoved h = either (λ (x : List ℕ). x ≡ s) refl (λ e. rows-same at f s n (h e))
+
+      -- a well-formed shelf stays so, if settings and thresholds are such as the types may have
+      pub formed-same : wellFormed s ≡ true
+          → ((j : ℕ) → j < elementsOf s
+          → (settingsFormed (kindAt s j) (settingsAt after j) ≡ true)
+          × (had (kindAt s j) (thresholdsAt after j) ≡ true)
+          × (ordered (kindAt s j) (thresholdsAt after j) ≡ true))
+          → wellFormed after ≡ true
+      formed-same w = formed s after front-same length-same reading-same nominal-same spare-same w

@@ -1,0 +1,96 @@
+-- The tests of a text, a type and an element, from what the calls say. Assumes nothing.
+use mathlib.Core.Path.{_≡_, refl, sym, ap, _∙_}
+use mathlib.Core.Bool.{Bool, true, false, _&&_, and-true, and-false}
+use mathlib.Core.List.{List, [], _∷_}
+use Prim.Native.Nat.{ℕ, _+_, _<_, _≤_}
+use native.Mathlib.Omega.{arith}
+use lib.Dec.{eqb, leb}
+use lib.ListN.{getD}
+use borrow.Author.Tests.{lt-ltb, le-ltb, lt-leb, le-leb, eq-eqb, ne-eqb, eqb-true, eqb-false}
+use Rattle.bits.specs.Choice.{allBelow}
+use Rattle.bits.specs.Places.{fourAt}
+use Rattle.bits.specs.Numbers.{big}
+use Rattle.bits.proofs.Logic.{by-case, below-cut}
+use Rattle.shelf.specs.Limits.{mostInType, mostText, typePlace, textPlace, elementPlace}
+use Rattle.element.specs.declared.types.Kind.{Kind}
+use Rattle.element.specs.Types.{served, readingAllowed, nominalAllowed}
+use Rattle.element.specs.Settings.{settingsFormed}
+use Rattle.element_verdict.specs.Thresholds.{had, ordered}
+use Rattle.shelf.specs.Types.{typeCode, typeCount, textLength, kindAt}
+use Rattle.shelf.specs.Elements.{settingsAt, thresholdsAt, readingAt, nominalAt, spareAt}
+use Rattle.shelf_formed.specs.Formed.{textByteFormed, textFormed, typeFormed, zeros, spareClear, fieldsFormed, elementFormed}
+
+third-holds : (a b c : Bool) → (a && b) && c ≡ ((a && true) && b) && c
+third-holds true b c = refl
+third-holds false b c = refl
+
+third-fails : (a b c : Bool) → ((a && false) && b) && c ≡ false
+third-fails true b c = refl
+third-fails false b c = refl
+
+pub text-read : (s : List ℕ) (t : ℕ) {k : ℕ} {e : List ℕ} → k ≡ typePlace t → e ≡ fourAt s k → getD e 2 0 ≡ textLength s t
+text-read s t p h = rw (h, p)
+
+module _ (s : List ℕ) (t : ℕ) {n : ℕ} (q : n ≡ textLength s t) where
+  pub byte-printable : (i : ℕ) {k b : ℕ} → i < n → k ≡ textPlace t → b ≡ getD s (k + i) 0 → leb 0x20 b && leb b 0x7e ≡ textByteFormed s t i
+  byte-printable i l u v = rw (lt-ltb i (textLength s t) (rw q at l), v, u)
+
+  pub byte-ended : (i : ℕ) {k b : ℕ} → n ≤ i → k ≡ textPlace t → b ≡ getD s (k + i) 0 → eqb b 0 ≡ textByteFormed s t i
+  byte-ended i l u v = rw (le-ltb i (textLength s t) (rw q at l), v, u)
+
+  pub unprintable : {r : Bool} → n ≤ mostText → r ≡ allBelow (textByteFormed s t) n → r ≡ false → false ≡ textFormed s t
+  unfolding textFormed
+  unprintable l h u = sym (below-cut (textByteFormed s t) n mostText l (sym h ∙ u))
+
+  pub text-too-long : mostText < n → false ≡ typeFormed s t
+  unfolding typeFormed
+  text-too-long l = rw (lt-leb (textLength s t) mostText (rw q at l)) (sym (third-fails (served (typeCode s t) && leb (typeCount s t) mostInType) (eqb (getD s (typePlace t + 3) 0) 0) (textFormed s t)))
+
+  -- the four bytes before a text, and the text
+  pub type-judged : {k : ℕ} {e : List ℕ} {a f : Bool} → n ≤ mostText → k ≡ typePlace t → e ≡ fourAt s k → a ≡ served (getD e 0 0) → f ≡ textFormed s t
+      → ((a && leb (getD e 1 0) mostInType) && eqb (getD e 3 0) 0) && f ≡ typeFormed s t
+  unfolding typeFormed
+  type-judged l p h u v = rw (le-leb (textLength s t) mostText (rw q at l), u, v, h, p) (third-holds (served (typeCode s t) && leb (typeCount s t) mostInType) (eqb (getD s (typePlace t + 3) 0) 0) (textFormed s t))
+
+pub not-spare : (s : List ℕ) (j : ℕ) {a : Bool} → a ≡ spareClear s j → a ≡ false → false ≡ elementFormed s j
+unfolding elementFormed
+not-spare s j ha h =
+    let f = fieldsFormed (kindAt s j) (settingsAt s j) (thresholdsAt s j) (readingAt s j) (nominalAt s j) in
+    sym (ap (λ (b : Bool). f && b) (sym ha ∙ h) ∙ and-false f)
+
+pub judged : (s : List ℕ) (j : ℕ) {k : Kind} {e t : List ℕ} {r n : ℕ} {a b : Bool}
+    → k ≡ kindAt s j → a ≡ spareClear s j → a ≡ true → e ≡ settingsAt s j → t ≡ thresholdsAt s j → r ≡ readingAt s j → n ≡ nominalAt s j
+    → b ≡ fieldsFormed k e t r n → b ≡ elementFormed s j
+unfolding elementFormed
+judged s j hk ha h he ht hr hn hb =
+    rw (← ha, h, hb, hk, he, ht, hr, hn) (sym (and-true (fieldsFormed (kindAt s j) (settingsAt s j) (thresholdsAt s j) (readingAt s j) (nominalAt s j))))
+
+pub all-formed : (k : Kind) (e t : List ℕ) (r n : ℕ) {a b c d f : Bool}
+    → a ≡ settingsFormed k e → b ≡ had k t → c ≡ ordered k t → d ≡ readingAllowed k r → f ≡ nominalAllowed k n
+    → (((a && b) && c) && d) && f ≡ fieldsFormed k e t r n
+all-formed k e t r n ha hb hc hd hf = rw (ha, hb, hc, hd, hf)
+
+-- four bytes that say 0 are zero
+pub zeros-said : (a b c d : ℕ) → eqb (big (a ∷ b ∷ c ∷ d ∷ [])) 0 ≡ zeros (a ∷ b ∷ c ∷ d ∷ [])
+zeros-said a b c d =
+    by-case (eqb a 0)
+    (λ p.
+    by-case (eqb b 0)
+    (λ q.
+    by-case (eqb c 0)
+    (λ r.
+    by-case (eqb d 0)
+    (λ s. rw (p, q, r, s) (eq-eqb (big (a ∷ b ∷ c ∷ d ∷ [])) 0 (omega (arith, eqb-true a 0 p, eqb-true b 0 q, eqb-true c 0 r, eqb-true d 0 s))))
+    (λ s. rw (p, q, r, s) (said d (λ e. omega (arith, e)) s)))
+    (λ r. rw (p, q, r) (said c (λ e. omega (arith, e)) r)))
+    (λ q. rw (p, q) (said b (λ e. omega (arith, e)) q)))
+    (λ p. rw p (said a (λ e. omega (arith, e)) p))
+  where
+    said : (x : ℕ) → (big (a ∷ b ∷ c ∷ d ∷ []) ≡ 0 → x ≡ 0) → eqb x 0 ≡ false → eqb (big (a ∷ b ∷ c ∷ d ∷ [])) 0 ≡ false
+    said x h p = ne-eqb (big (a ∷ b ∷ c ∷ d ∷ [])) 0 (λ e. eqb-false x 0 p (h e))
+
+pub spare-said : (s : List ℕ) (j : ℕ) {k n : ℕ} → k ≡ elementPlace j → n ≡ big (fourAt s (k + 12)) → eqb n 0 ≡ spareClear s j
+unfolding spareClear spareAt
+spare-said s j p q =
+    let k = elementPlace j + 12 in
+    rw (q, p) (zeros-said (getD s k 0) (getD s (k + 1) 0) (getD s (k + 2) 0) (getD s (k + 3) 0))

@@ -1,0 +1,56 @@
+-- The worst of the codes seen so far, and whether a code was seen, one element after the other. Assumes nothing.
+use mathlib.Core.Path.{_≡_, refl, sym, ap, _∙_}
+use mathlib.Core.Bool.{Bool, true, false, _||_}
+use mathlib.Core.List.{List}
+use Prim.Native.Nat.{ℕ, suc, _+_, _-_, _≤_}
+use native.Mathlib.Numerals.{add-one}
+use native.Mathlib.Omega.{arith}
+use lib.Dec.{eqb}
+use Rattle.bits.specs.Choice.{pick}
+use Rattle.element.specs.declared.types.Kind.{Kind}
+use Rattle.element_status.specs.declared.Shown.{Shown}
+use Rattle.element_status.specs.Status.{codeAlone}
+use Rattle.page.specs.declared.slots.Slot.{Slot}
+use Rattle.page.specs.Slots.{slotAt}
+use Rattle.shelf.specs.Types.{kindAt}
+use Rattle.shelf_status.specs.ShelfStatus.{shownAt, codeAt, anyBelow, worstOf, has, worst, worse, shownIn, isCode}
+
+-- one code more, by which of the four were there
+step : (a b c d : Bool) (n : ℕ)
+    → worse (pick a 2 (pick b 3 (pick c 6 (pick d 1 0)))) n ≡ pick (a || eqb n 2) 2 (pick (b || eqb n 3) 3 (pick (c || eqb n 6) 6 (pick (d || eqb n 1) 1 0)))
+step true b c d n = refl
+step false true c d n = refl
+step false false true d n = refl
+step false false false true n = refl
+step false false false false n = refl
+
+module _ (s : List ℕ) (k : Kind) (first : ℕ) where
+  pub none-seen : 0 ≡ worstOf (has s k first (first - first))
+  none-seen = ap (λ n. worstOf (has s k first n)) (let e : 0 ≡ first - first = omega arith in e)
+
+  pub one-more : (j : ℕ) {w n r : ℕ} → first ≤ j → w ≡ worstOf (has s k first (j - first)) → n ≡ codeAt s k j → r ≡ worse w n
+      → r ≡ worstOf (has s k first (j + 1 - first))
+  one-more j l p q h =
+      let m = j - first in
+      let e : j + 1 - first ≡ suc m = omega arith in
+      let f : first + m ≡ j = omega arith in
+      h
+      ∙ rw (p, q)
+      (ap (λ x. worse (worstOf (has s k first m)) (codeAt s k x)) (sym f)
+      ∙ step (has s k first m 2) (has s k first m 3) (has s k first m 6) (has s k first m 1) (codeAt s k (first + m))
+      ∙ ap (λ x. worstOf (has s k first x)) (sym e))
+
+  pub all-seen : (j end : ℕ) {w : ℕ} → j - first ≡ end - first → w ≡ worstOf (has s k first (j - first)) → w ≡ worst s k first end
+  unfolding worst
+  all-seen j end e p = p ∙ ap (λ n. worstOf (has s k first n)) e
+
+-- a code seen by one element more
+pub seen-next : (s : List ℕ) (code j : ℕ) {b : Bool} {k : Kind} {n : ℕ} → b ≡ anyBelow (isCode s code) j → k ≡ kindAt s j → n ≡ codeAt s k j
+    → b || eqb n code ≡ anyBelow (isCode s code) (j + 1)
+seen-next s code j p q r = rw (add-one, p, r, q)
+
+-- what slot i shows, from what the slot is for
+pub shown-is : (s : List ℕ) (i : ℕ) {at : Slot} {x : Shown} → at ≡ slotAt s i
+    → x ≡ pick (at .overall) (codeAlone (worst s (at .kind) (at .first) (at .end))) (shownAt s (at .kind) (at .first)) → x ≡ shownIn s i
+unfolding shownIn
+shown-is s i e h = h ∙ rw e

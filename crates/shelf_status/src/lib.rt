@@ -1,0 +1,134 @@
+// What a shelf shows: each element by itself, each type by its worst element, and the page by all.
+use element::settings::Settings;
+use element::types::Kind;
+use element_status::Shown;
+use element_verdict::verdict::Verdict;
+use page::slots::Slot;
+use shelf::elements;
+use shelf::types;
+ghost use mathlib.Core.Path.{_≡_};
+ghost use mathlib.Core.Bool.{true};
+ghost use Prim.Native.Nat.{_≤_};
+ghost use lib.ListN.{length};
+ghost use Rattle.bits.specs.Choice.{pick};
+ghost use Rattle.element_status.specs.Status.{codeAlone};
+ghost use Rattle.shelf.specs.Limits.{elementPlace, HasElement};
+ghost use Rattle.shelf_formed.specs.Formed.{wellFormed};
+ghost use Rattle.page.specs.Slots.{HasElements};
+ghost use Rattle.shelf_status.specs.ShelfStatus.{shownAt, codeAt, worse, worst, pageBits, bitsByte};
+
+// The two bits of a status page that tell of all its elements.
+pub struct PageBits {
+    pub noncritical: bool,
+    pub critical: bool,
+}
+
+impl PageBits {
+    pub fn of(shelf: &[u8]) -> PageBits
+        requires { ⌜ wellFormed (now shelf) ≡ true ⌝ }
+        ensures { λ r. ⌜ r ≡ pageBits (now (shelf .entry)) ⌝ }
+    {
+        let n = types::all_elements(shelf);
+        let mut noncritical = false;
+        let mut critical = false;
+        let mut run = types::first_run(shelf);
+        let mut j: u16 = 0;
+        while j < n {
+            let here = types::run_to(shelf, run, j);
+            run = here;
+            let kind = here.kind;
+            let code = code_at(shelf, kind, j);
+            noncritical = noncritical | (code == 3);
+            critical = critical | (code == 2);
+            j += 1;
+        }
+        PageBits {
+            noncritical,
+            critical,
+        }
+    }
+
+    // Byte 1 of the page.
+    pub fn byte(self) -> u8
+        ensures { λ r. ⌜ r ≡ bitsByte self ⌝ }
+    {
+        bits::nibble(false, self.noncritical, self.critical, false)
+    }
+}
+
+fn shown_at(shelf: &[u8], kind: Kind, j: u16) -> Shown
+    requires { ⌜ HasElement (now shelf) j ⌝ }
+    ensures { λ r. ⌜ r ≡ shownAt (now (shelf .entry)) kind j ⌝ }
+{
+    let set = Settings::of(kind, elements::settings_at(shelf, j));
+    let reading = elements::reading_at(shelf, j);
+    let nominal = elements::nominal_at(shelf, j);
+    Shown::by(
+        kind,
+        set,
+        reading,
+        nominal,
+        elements::thresholds_at(shelf, j),
+    )
+}
+
+// Without what else the element shows.
+fn code_at(shelf: &[u8], kind: Kind, j: u16) -> u8
+    requires { ⌜ HasElement (now shelf) j ⌝ }
+    ensures { λ r. ⌜ r ≡ codeAt (now (shelf .entry)) kind j ⌝ }
+{
+    let set = Settings::of(kind, elements::settings_at(shelf, j));
+    let reading = elements::reading_at(shelf, j);
+    let nominal = elements::nominal_at(shelf, j);
+    let verdict = Verdict::of(
+        kind,
+        set.on,
+        reading,
+        nominal,
+        elements::thresholds_at(shelf, j),
+    );
+    verdict.code
+}
+
+fn worse(a: u8, b: u8) -> u8
+    ensures { λ r. ⌜ r ≡ worse a b ⌝ }
+{
+    if (a == 2) | (b == 2) {
+        2
+    } else if (a == 3) | (b == 3) {
+        3
+    } else if (a == 6) | (b == 6) {
+        6
+    } else if (a == 1) | (b == 1) {
+        1
+    } else {
+        0
+    }
+}
+
+// The worst code of the elements from `first` up to `end`.
+fn worst(shelf: &[u8], kind: Kind, first: u16, end: u16) -> u8
+    requires { ⌜ elementPlace end ≤ length (now shelf) ⌝ }
+    ensures { λ r. ⌜ r ≡ worst (now (shelf .entry)) kind first end ⌝ }
+{
+    let mut code: u8 = 0;
+    let mut j = first;
+    while j < end {
+        code = worse(code, code_at(shelf, kind, j));
+        j += 1;
+    }
+    code
+}
+
+// What a slot of the status page shows.
+pub fn shown_in(shelf: &[u8], at: Slot) -> Shown
+    requires { ⌜ HasElements (now shelf) at ⌝ }
+    ensures { λ r. ⌜ r ≡ pick (at .overall) (codeAlone (worst (now (shelf .entry)) (at .kind) (at .first) (at .end))) (shownAt (now (shelf .entry)) (at .kind) (at .first)) ⌝ }
+{
+    let kind = at.kind;
+    if at.overall {
+        Shown::code_alone(worst(shelf, kind, at.first, at.end))
+    } else {
+        shown_at(shelf, kind, at.first)
+    }
+}

@@ -1,3 +1,0 @@
-pub mod Turned
-pub mod Asked
-pub mod Told

@@ -1,0 +1,123 @@
+// The page read, under a configuration.
+use crate::writing;
+use element_status::Shown;
+use page::header;
+use page::slots;
+use page::slots::Slot;
+use refusals::Answer;
+use refusals::Refusal;
+use shelf_formed::Opened;
+use shelf_status::PageBits;
+ghost use mathlib.Core.Path.{_≡_};
+ghost use Prim.Native.Nat.{_+_, _≤_};
+ghost use lib.ListN.{length, getD};
+ghost use Rattle.bits.specs.Choice.{pick};
+ghost use Rattle.bits.specs.Places.{fourAt};
+ghost use Rattle.element_status.specs.Status.{offending, overallOffending, codeAlone, shownOf};
+ghost use Rattle.refusals.specs.Outcomes.{recordAfter};
+ghost use Rattle.shelf_formed.specs.Formed.{HasFront};
+ghost use Rattle.page.specs.Slots.{slotsOf, slotPlace};
+ghost use Rattle.status_record.specs.Entries.{entryPlace, entriesPut};
+ghost use Rattle.status_page.specs.Read.{offence, slotShown, bitsOn, statusRead, statusRecord};
+
+// The first byte of slot i that is refused; 4 if none is.
+fn slot_offending(page: &[u8], at: Slot, i: u16) -> u8
+    requires { ⌜ slotPlace i + 4 ≤ length (now page) ⌝ }
+    ensures { λ r. ⌜ r ≡ pick (at .overall) (overallOffending (fourAt (now (page .entry)) (slotPlace i))) (offending (at .kind) (fourAt (now (page .entry)) (slotPlace i))) ⌝ }
+{
+    let kind = at.kind;
+    let e = bits::four_at(page, slots::slot_place(i));
+    if at.overall {
+        Shown::overall_offending(e)
+    } else {
+        Shown::offending(kind, e)
+    }
+}
+
+// The first byte of the page, in page order, that is refused; the page's length if none is.
+fn first_offence(configuration: &[u8], page: &[u8], n: u16) -> u32
+    requires { ⌜ HasFront (now configuration) ⌝ }
+    requires { ⌜ n ≤ slotsOf (now configuration) ⌝ }
+    requires { ⌜ slotPlace n ≤ length (now page) ⌝ }
+    ensures { λ r. ⌜ r ≡ offence (now (configuration .entry)) (now (page .entry)) n ⌝ }
+{
+    if bits::byte_at(page, 1) & 0xf9 != 0 {
+        return 1;
+    }
+    let mut run = slots::first_run();
+    let mut i: u16 = 0;
+    while i < n {
+        let here = slots::run_to(configuration, run, i);
+        run = here;
+        let at = slots::slot_in(here, i);
+        let k = slot_offending(page, at, i);
+        if k < 4 {
+            return slots::slot_place(i) + k as u32;
+        }
+        i += 1;
+    }
+    slots::slot_place(n)
+}
+
+fn slot_shown(page: &[u8], at: Slot, i: u16) -> Shown
+    requires { ⌜ slotPlace i + 4 ≤ length (now page) ⌝ }
+    ensures { λ r. ⌜ r ≡ pick (at .overall) (codeAlone (getD (now (page .entry)) (slotPlace i) 0)) (shownOf (at .kind) (fourAt (now (page .entry)) (slotPlace i))) ⌝ }
+{
+    let kind = at.kind;
+    let e = bits::four_at(page, slots::slot_place(i));
+    if at.overall {
+        Shown::code_alone(e[0])
+    } else {
+        Shown::of(kind, e)
+    }
+}
+
+fn bits_on(page: &[u8]) -> PageBits
+    requires { ⌜ 4 ≤ length (now page) ⌝ }
+    ensures { λ r. ⌜ r ≡ bitsOn (now (page .entry)) ⌝ }
+{
+    let b = bits::byte_at(page, 1);
+    PageBits {
+        noncritical: b >> 2 & 1 == 1,
+        critical: b >> 1 & 1 == 1,
+    }
+}
+
+fn put_entries(configuration: &[u8], page: &[u8], fields: &mut [u8], n: u16)
+    requires { ⌜ HasFront (now configuration) ⌝ }
+    requires { ⌜ n ≤ slotsOf (now configuration) ⌝ }
+    requires { ⌜ slotPlace n ≤ length (now page) ⌝ }
+    requires { ⌜ entryPlace n ≤ length (now fields) ⌝ }
+    ensures { λ _. ⌜ now (fields .exit) ≡ entriesPut (slotShown (now (configuration .entry)) (now (page .entry))) (now (fields .entry)) n ⌝ }
+{
+    let mut run = slots::first_run();
+    let mut i: u16 = 0;
+    while i < n {
+        let here = slots::run_to(configuration, run, i);
+        run = here;
+        let at = slots::slot_in(here, i);
+        status_record::put_entry(fields, i, slot_shown(page, at, i));
+        i += 1;
+    }
+}
+
+pub fn read(configuration: &[u8], page: &[u8], fields: &mut [u8; status_record::LENGTH]) -> Answer
+    ensures { λ r. ⌜ r ≡ statusRead (now (configuration .entry)) (now (page .entry)) ⌝ }
+    ensures { λ r. ⌜ now (fields .exit) ≡ recordAfter r (statusRecord (now (configuration .entry)) (now (page .entry))) (now (fields .entry)) ⌝ }
+{
+    let opened = shelf_formed::open_configuration(configuration);
+    let Opened::Shelf(sizes) = opened else {
+        return Answer::Refused(Refusal::ShelfNotWellFormed);
+    };
+    let n = sizes.types + sizes.elements;
+    let head = header::test(configuration, page, writing::CODE, n);
+    let Answer::Accepted = head else {
+        return head;
+    };
+    if first_offence(configuration, page, n) != slots::slot_place(n) {
+        return Answer::Refused(Refusal::NotAllowed);
+    }
+    status_record::put_head(fields, bits_on(page), n);
+    put_entries(configuration, page, fields, n);
+    Answer::Accepted
+}

@@ -1,0 +1,204 @@
+-- A status page that was accepted is written again as the same bytes. Assumes nothing.
+use mathlib.Core.Path.{_≡_, refl, sym, ap, ap₂, _∙_}
+use mathlib.Core.Bool.{Bool, true, false}
+use mathlib.Core.List.{List, [], _∷_, _++_}
+use Prim.Native.Nat.{ℕ, _+_, _*_, _<_, _≤_}
+use native.Mathlib.Omega.{arith}
+use lib.Dec.{eqb}
+use lib.ListN.{getD}
+use lib.Seq.{take-all}
+use borrow.Author.Tests.{eqb-true, eq-eqb, ltb-false}
+use Rattle.bits.specs.Choice.{pick, offenceIn}
+use Rattle.bits.specs.Bits.{bit, only, nibble}
+use Rattle.bits.specs.Places.{fourAt}
+use Rattle.bits.proofs.Offence.{row-fine}
+use Rattle.bits.proofs.Logic.{pick-yes, pick-no, and-both, below-all, by-case, all-four, first-small}
+use Rattle.bits.proofs.Halves.{again-byte}
+use Rattle.bits.specs.Numbers.{Bytes}
+use Rattle.bits.proofs.Rows.{joined-same, fours}
+use Rattle.element.specs.declared.types.Kind.{Kind}
+use Rattle.element.specs.declared.types.Kind.the-variants.{Cooling, Temperature, Voltage, Current}
+use Rattle.refusals.specs.declared.Refusal.the-variants.{ShelfNotWellFormed, NotAllowed}
+use Rattle.refusals.specs.declared.Answer.{Answer}
+use Rattle.refusals.specs.declared.Answer.the-variants.{Accepted}
+use Rattle.refusals.specs.Outcomes.{unless, next}
+use Rattle.refusals.proofs.AcceptedTests.{held, held-both}
+use Rattle.shelf.specs.Limits.{mostTypes, mostElements}
+use Rattle.shelf_formed.specs.Formed.{configurationFormed}
+use Rattle.element_status.specs.Status.{codeAllowed, readingOf, shownOf, statusBytes, offending, overallOffending, codeAlone, showable, overallShowable}
+use Rattle.element_status.proofs.StatusBothWays.{shown-again, clear-showable}
+use Rattle.page.specs.declared.slots.Slot.{Slot}
+use Rattle.page.specs.Slots.{slotsOf, slotAt, slotPlace}
+use Rattle.page.specs.Header.{headed}
+use Rattle.page.proofs.SlotBounds.{configuration-front, slots-bound}
+use Rattle.page.proofs.HeaderBothWays.{byte-small, length-tested, header-again}
+use Rattle.shelf_status.specs.ShelfStatus.{bitsByte}
+use Rattle.status_page.specs.Page.{slotBytes, slotRow, pageWith}
+use Rattle.status_record.specs.Entries.{entryAt, bitsAt, entriesIn}
+use Rattle.status_page.specs.Read.{slotOffending, offence, statusRead, slotShown, bitsOn, statusRecord}
+use Rattle.status_rewritten.specs.Rewritten.{slotShowable, entryFormed, entriesFormed, recordTested, pageAgain}
+use Rattle.status_record.proofs.WholeRecord.{bits-back, bits-fine, count-back, entry-back, flags-back}
+
+slot-small : (c p : List ℕ) (i : ℕ) → slotOffending c p i ≤ 4
+unfolding slotOffending offending overallOffending
+slot-small c p i = go (slotAt c i .overall)
+  where
+    go : (t : Bool) → pick t (overallOffending (fourAt p (slotPlace i))) (offending (slotAt c i .kind) (fourAt p (slotPlace i))) ≤ 4
+    go true = first-small _ _ _ _
+    go false = first-small _ _ _ _
+
+-- a page without a refused byte
+module _ (c p : List ℕ) (n : ℕ) (h : offence c p n ≡ slotPlace n) where
+  pub own-fine : only (2 ∷ 1 ∷ []) (getD p 1 0) ≡ true
+  unfolding offence
+  own-fine = go (only (2 ∷ 1 ∷ []) (getD p 1 0)) h
+    where
+      go : (t : Bool) → pick t (offenceIn slotPlace (slotOffending c p) n) 1 ≡ slotPlace n → t ≡ true
+      go true e = refl
+      go false e = absurd (omega arith)
+
+  pub slot-fine : (i : ℕ) → i < n → slotOffending c p i ≡ 4
+  unfolding offence
+  slot-fine i l =
+      let e = row-fine slotPlace (slotOffending c p) n (λ j m. omega arith) (sym (pick-yes _ _ _ own-fine) ∙ h) i l in
+      omega (arith, ltb-false (slotOffending c p i) 4 e, slot-small c p i)
+
+-- one slot of an accepted page: what it shows can be shown, and is shown by the same bytes
+module _ (c p : List ℕ) (hp : Bytes p) (i : ℕ) (h : slotOffending c p i ≡ 4) where
+  abbrev at : Slot
+  at = slotAt c i
+
+  abbrev k : ℕ
+  k = slotPlace i
+
+  small : (m : ℕ) → getD p m 0 < 256
+  small = byte-small p hp
+
+  overall-fine : at .overall ≡ true
+      → (codeAllowed (getD p k 0) ≡ true) × (eqb (getD p (k + 1) 0) 0 ≡ true) × (eqb (getD p (k + 2) 0) 0 ≡ true) × (eqb (getD p (k + 3) 0) 0 ≡ true)
+  unfolding slotOffending overallOffending
+  overall-fine o =
+      all-four (codeAllowed (getD p k 0)) (eqb (getD p (k + 1) 0) 0) (eqb (getD p (k + 2) 0) 0) (eqb (getD p (k + 3) 0) 0)
+      (sym (pick-yes _ _ _ o) ∙ h)
+
+  element-fine : at .overall ≡ false → offending (at .kind) (fourAt p k) ≡ 4
+  unfolding slotOffending
+  element-fine o = sym (pick-no _ _ _ o) ∙ h
+
+  shown-overall : at .overall ≡ true → slotShown c p i ≡ codeAlone (getD p k 0)
+  unfolding slotShown
+  shown-overall o = pick-yes _ _ _ o
+
+  shown-element : at .overall ≡ false → slotShown c p i ≡ shownOf (at .kind) (fourAt p k)
+  unfolding slotShown
+  shown-element o = pick-no _ _ _ o
+
+  row-overall : at .overall ≡ true → slotBytes at (slotShown c p i) ≡ fourAt p k
+  unfolding slotBytes
+  row-overall o =
+      let q = overall-fine o in
+      pick-yes _ _ _ o
+      ∙ rw (shown-overall o, eqb-true (getD p (k + 1) 0) 0 (q .1), eqb-true (getD p (k + 2) 0) 0 (q .2), eqb-true (getD p (k + 3) 0) 0 (q .3))
+
+  row-element : at .overall ≡ false → slotBytes at (slotShown c p i) ≡ fourAt p k
+  unfolding slotBytes
+  row-element o =
+      pick-no _ _ _ o
+      ∙ ap (statusBytes (at .kind)) (shown-element o)
+      ∙ shown-again (at .kind) (getD p k 0) (getD p (k + 1) 0) (getD p (k + 2) 0) (getD p (k + 3) 0) (small k) (small (k + 1)) (small (k + 2)) (small (k + 3))
+      (element-fine o)
+
+  pub row-again : slotBytes at (slotShown c p i) ≡ fourAt p k
+  row-again = by-case (at .overall) row-overall row-element
+
+  alone-showable : (n : ℕ) → codeAllowed n ≡ true → overallShowable (codeAlone n) ≡ true
+  unfolding overallShowable
+  alone-showable n e = rw e
+
+  pub shown-fine : slotShowable at (slotShown c p i) ≡ true
+  shown-fine =
+      by-case (at .overall)
+      (λ o. pick-yes _ _ _ o ∙ ap overallShowable (shown-overall o) ∙ alone-showable (getD p k 0) (overall-fine o .0))
+      (λ o. pick-no _ _ _ o ∙ ap (showable (at .kind)) (shown-element o)
+      ∙ clear-showable (at .kind) (getD p k 0) (getD p (k + 1) 0) (getD p (k + 2) 0) (getD p (k + 3) 0) (small k) (small (k + 1)) (small (k + 2)) (small (k + 3))
+      (element-fine o))
+
+  reading-small : (x : Kind) → readingOf x (fourAt p k) < 65536
+  unfolding readingOf
+  reading-small Cooling = omega (arith, small (k + 2))
+  reading-small Temperature = omega (arith, small (k + 2))
+  reading-small Voltage = omega (arith, small (k + 2), small (k + 3))
+  reading-small Current = omega (arith, small (k + 2), small (k + 3))
+
+  pub shown-small : slotShown c p i .reading < 65536
+  unfolding shownOf
+  shown-small =
+      by-case (at .overall)
+      (λ o. rw (shown-overall o) (omega arith))
+      (λ o. rw (shown-element o) (reading-small (at .kind)))
+
+-- byte 1 again
+own-again : (b : ℕ) → b < 256 → only (2 ∷ 1 ∷ []) b ≡ true → nibble false (bit 2 b) (bit 1 b) false ≡ b
+own-again = again-byte (2 ∷ 1 ∷ []) (λ b. nibble false (bit 2 b) (bit 1 b) false) refl
+
+-- writing again what an accepted reading gave, whatever stands behind it
+module _ (c p rest : List ℕ) (hc : Bytes c) (hp : Bytes p) (a : statusRead c p ≡ Accepted) where
+  passed : (configurationFormed c ≡ true) × (headed c p 0x02 (slotsOf c) ≡ Accepted) × (eqb (offence c p (slotsOf c)) (slotPlace (slotsOf c)) ≡ true)
+  unfolding statusRead
+  passed =
+      let r2 : Answer = unless (eqb (offence c p (slotsOf c)) (slotPlace (slotsOf c))) NotAllowed Accepted in
+      let r1 : Answer = next (headed c p 0x02 (slotsOf c)) r2 in
+      let h1 = held (configurationFormed c) ShelfNotWellFormed r1 a in
+      let h2 = held-both (headed c p 0x02 (slotsOf c)) r2 (h1 .1) in
+      let h3 = held (eqb (offence c p (slotsOf c)) (slotPlace (slotsOf c))) NotAllowed Accepted (h2 .1) in
+      (h1 .0, h2 .0, h3 .0)
+
+  no-offence : offence c p (slotsOf c) ≡ slotPlace (slotsOf c)
+  no-offence = eqb-true (offence c p (slotsOf c)) (slotPlace (slotsOf c)) (passed .2)
+
+  few : slotsOf c ≤ mostTypes + mostElements
+  few = slots-bound c (configuration-front c (passed .0))
+
+  abbrev record-told : List ℕ
+  record-told = statusRecord c p ++ rest
+
+  fine : (i : ℕ) → i < slotsOf c → slotOffending c p i ≡ 4
+  fine i l = slot-fine c p (slotsOf c) no-offence i l
+
+  entry-told : (i : ℕ) → i < slotsOf c → entryAt record-told i ≡ slotShown c p i
+  unfolding statusRecord
+  entry-told i l = entry-back (bitsOn p) (slotShown c p) (slotsOf c) rest (omega (arith, few)) i l (shown-small c p hp i (fine i l))
+
+  entry-fine : (i : ℕ) → i < slotsOf c → entryFormed c record-told i ≡ true
+  unfolding statusRecord entryFormed
+  entry-fine i l =
+      and-both (flags-back (bitsOn p) (slotShown c p) (slotsOf c) rest (omega (arith, few)) i l)
+      (ap (slotShowable (slotAt c i)) (entry-told i l) ∙ shown-fine c p hp i (fine i l))
+
+  pub asked-again : recordTested c record-told ≡ Accepted
+  unfolding recordTested entriesFormed statusRecord
+  asked-again =
+      let n : entriesIn record-told ≡ slotsOf c = count-back (bitsOn p) (slotShown c p) (slotsOf c) rest (omega (arith, few)) in
+      rw (
+        passed .0,
+        eq-eqb (entriesIn record-told) (slotsOf c) n,
+        bits-fine (bitsOn p) (slotShown c p) (slotsOf c) rest (omega (arith, few)),
+        below-all (entryFormed c record-told) (slotsOf c) entry-fine,
+      )
+
+  bits-told : bitsByte (bitsAt record-told) ≡ getD p 1 0
+  unfolding statusRecord bitsOn
+  bits-told =
+      ap bitsByte (bits-back (bitsOn p) (slotShown c p) (slotsOf c) rest (omega (arith, few)))
+      ∙ own-again (getD p 1 0) (byte-small p hp 1) (own-fine c p (slotsOf c) no-offence)
+
+  pub page-again : pageAgain c record-told ≡ p
+  unfolding pageAgain pageWith
+  page-again =
+      let n = slotsOf c in
+      let e = length-tested c p 0x02 n (passed .1) in
+      ap₂ _++_ (header-again c p 0x02 n (passed .1) (bitsByte (bitsAt record-told)) hc hp bits-told)
+      (joined-same (slotRow c (entryAt record-told)) (λ i. fourAt p (8 + 4 * i)) n
+      (λ i l. ap (slotBytes (slotAt c i)) (entry-told i l) ∙ row-again c p hp i (fine i l)))
+      ∙ sym (fours p 8 n (omega (arith, e)))
+      ∙ take-all (8 + 4 * n) p (omega (arith, e))

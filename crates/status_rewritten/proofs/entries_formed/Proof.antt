@@ -1,0 +1,71 @@
+-- `status_rewritten::entries_formed` meets its contract. Assumes nothing.
+use mathlib.Core.Path.{_≡_, refl, sym, _∙_}
+use Prim.Native.Nat.{_-_, _≤_}
+use native.Mathlib.Omega.{arith}
+use denote.Ref.{now}
+use borrow.Author.Needs.{needs}
+use mathlib.Core.Bool.{true}
+use borrow.Author.Tests.{not-true, not-false}
+use Rattle.bits.specs.Choice.{allBelow}
+use Rattle.bits.proofs.Logic.{below-fails, below-next}
+use Rattle.page.specs.Slots.{slotCarried}
+use Rattle.page.proofs.SlotWalk.{run-stands, slot-walked, walk-on}
+use Rattle.status_rewritten.specs.Rewritten.{entryFormed, entriesFormed}
+use Rattle.status_rewritten.proofs.Refusals.{entry-asked}
+use Rattle.status_rewritten.proofs.entries_formed.Statement.{statement}
+use Rattle.status_rewritten.proofs.entries_formed.Tie as tie
+
+abbrev Inv-loop : tie.InvT-loop
+Inv-loop configuration fields n run₀ i₀ run i = (i ≤ n) × (run ≡ slotCarried configuration i) × (allBelow (entryFormed configuration fields) i ≡ true)
+
+abbrev μ-loop : tie.MeasureT-loop
+μ-loop configuration fields n run₀ i₀ run i = n - i
+
+first-run-requires : tie.Need-first-run-requires Inv-loop μ-loop
+first-run-requires c κs = search needs
+
+loop-holds : tie.Need-loop-holds Inv-loop μ-loop
+loop-holds c = (omega arith, c .first-run .ensures, refl)
+
+run-to-requires : tie.Need-run-to-requires Inv-loop μ-loop
+run-to-requires c κs = let q = c .before .before .before .before .before in (q .pre .0, (omega (arith, q .pre .1 .0, c .loop-test .taken), c .before .loop .inv .1))
+
+slot-in-requires : tie.Need-slot-in-requires Inv-loop μ-loop
+slot-in-requires c κs = let q = c .before .before .before .before .before .before in run-stands (now (q .args .configuration)) (q .pre .0 .0) (c .before .before .loop .i) (omega (arith, q .pre .1 .0, c .before .loop-test .taken)) (c .run-to .ensures)
+
+entry-formed-requires : tie.Need-entry-formed-requires Inv-loop μ-loop
+entry-formed-requires c κs = search needs
+
+returns : tie.Need-returns Inv-loop μ-loop
+unfolding entriesFormed
+returns c = let s = c .before .before .before .before .before .before .before .before .before .args in sym (below-fails (entryFormed (now (s .configuration)) (now (s .fields))) (s .n) (c .before .before .before .before .before .loop .i) (c .before .before .before .before .loop-test .taken) (sym (entry-asked (now (s .configuration)) (now (s .fields)) (c .before .before .before .before .before .loop .i) (slot-walked (now (s .configuration)) (c .before .before .before .before .before .loop .i) (c .before .before .before .run-to .ensures) (c .before .before .slot-in .ensures)) (c .before .entry-formed .ensures)) ∙ not-true _ (c .if1 .taken)))
+
+add-i : tie.Need-add-i Inv-loop μ-loop
+add-i c = omega arith
+
+loop-less : tie.Need-loop-less Inv-loop μ-loop
+loop-less c = omega arith
+
+loop-again : tie.Need-loop-again Inv-loop μ-loop
+loop-again c = let s = c .before .before .before .before .before .before .before .before .before .args in let l = c .before .before .before .before .before .loop in (omega arith, walk-on (now (s .configuration)) (l .i) (c .before .before .before .run-to .ensures), below-next (entryFormed (now (s .configuration)) (now (s .fields))) (l .i) (l .inv .2) (sym (entry-asked (now (s .configuration)) (now (s .fields)) (c .before .before .before .before .before .loop .i) (slot-walked (now (s .configuration)) (c .before .before .before .before .before .loop .i) (c .before .before .before .run-to .ensures) (c .before .before .slot-in .ensures)) (c .before .entry-formed .ensures)) ∙ not-false _ (c .if1 .left)))
+
+returns-2 : tie.Need-returns-2 Inv-loop μ-loop
+unfolding entriesFormed
+returns-2 c = let s = c .before .before .before .before .before .args in let l = c .before .loop in let e : l .i ≡ s .n = omega arith in sym (rw e at (l .inv .2))
+
+pub entries-formed-spec : {M : Type 1} → statement M
+entries-formed-spec =
+    tie.close
+    (tie.spec
+    Inv-loop
+    μ-loop
+    first-run-requires
+    loop-holds
+    run-to-requires
+    slot-in-requires
+    entry-formed-requires
+    returns
+    add-i
+    loop-less
+    loop-again
+    returns-2)

@@ -1,4 +1,0 @@
-pub mod Turned
-pub mod Asked
-pub mod Back
-pub mod Told

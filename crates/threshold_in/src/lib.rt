@@ -1,4 +1,0 @@
-// The Threshold In page (05h): written from a shelf, read, and written again from what was read.
-pub mod again;
-pub mod page;
-pub mod reading;

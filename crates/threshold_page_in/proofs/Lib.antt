@@ -1,0 +1,4 @@
+pub mod Loops
+pub mod Refusals
+pub mod ReadAndRewritten
+pub mod WrittenAndRead

@@ -1,0 +1,33 @@
+-- The Threshold In page read: which pages are refused, and the record of the others. Assumes nothing.
+use mathlib.Core.List.{List, _∷_, _++_}
+use Prim.Native.Nat.{ℕ, _*_}
+use lib.Dec.{eqb}
+use lib.ListN.{getD}
+use Rattle.bits.specs.Numbers.{bytes}
+use Rattle.bits.specs.Places.{putFour}
+use Rattle.bits.specs.Rows.{bytesAt}
+use Rattle.refusals.specs.declared.Refusal.the-variants.{ShelfNotWellFormed, NotAllowed}
+use Rattle.refusals.specs.declared.Answer.{Answer}
+use Rattle.refusals.specs.Outcomes.{unless, next}
+use Rattle.shelf_formed.specs.Formed.{configurationFormed}
+use Rattle.page.specs.Slots.{slotsOf}
+use Rattle.page.specs.Header.{headed}
+use Rattle.threshold_rows.specs.Rows.{onPage, rowsTested}
+
+-- 1: no configuration; 2 to 5: the header; 6: byte 1 is not zero; 6, 7, 8: the slots
+unfoldable pub thresholdRead : List ℕ → List ℕ → Answer
+thresholdRead c p =
+    unless (configurationFormed c) ShelfNotWellFormed
+    (next (headed c p 0x05 (slotsOf c))
+    (unless (eqb (getD p 1 0) 0) NotAllowed (rowsTested c p onPage (slotsOf c))))
+
+-- two bytes that hold nothing, and the number of entries
+abbrev pub recordHead : ℕ → List ℕ
+recordHead n = 0 ∷ 0 ∷ bytes 2 n
+
+abbrev pub headPut : List ℕ → ℕ → List ℕ
+headPut r n = putFour r 0 (recordHead n)
+
+-- the entries are the slots as they are
+unfoldable pub thresholdRecord : List ℕ → List ℕ → List ℕ
+thresholdRecord c p = recordHead (slotsOf c) ++ bytesAt p onPage (4 * slotsOf c)

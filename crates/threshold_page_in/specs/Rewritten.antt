@@ -1,0 +1,27 @@
+-- The Threshold In page written again from a record r. Assumes nothing.
+use mathlib.Core.List.{List, _++_}
+use Prim.Native.Nat.{ℕ, _*_}
+use lib.Dec.{eqb}
+use Rattle.bits.specs.Numbers.{big}
+use Rattle.bits.specs.Places.{twoAt}
+use Rattle.bits.specs.Rows.{bytesAt}
+use Rattle.refusals.specs.declared.Refusal.the-variants.{ShelfNotWellFormed, WantedList}
+use Rattle.refusals.specs.declared.Answer.{Answer}
+use Rattle.refusals.specs.Outcomes.{unless}
+use Rattle.shelf_formed.specs.Formed.{configurationFormed}
+use Rattle.page.specs.Slots.{slotsOf}
+use Rattle.page.specs.Header.{header}
+use Rattle.threshold_rows.specs.Rows.{inRecord, rowsTested}
+
+abbrev pub entriesIn : List ℕ → ℕ
+entriesIn r = big (twoAt r 2)
+
+-- 1: no configuration; 9: a wrong number of entries; 6, 7, 8: the entries
+unfoldable pub recordTested : List ℕ → List ℕ → Answer
+recordTested c r =
+    unless (configurationFormed c) ShelfNotWellFormed
+    (unless (eqb (entriesIn r) (slotsOf c)) WantedList (rowsTested c r inRecord (slotsOf c)))
+
+-- the slots are the entries as they are
+unfoldable pub pageAgain : List ℕ → List ℕ → List ℕ
+pageAgain c r = header c 0x05 0 (slotsOf c) ++ bytesAt r inRecord (4 * slotsOf c)

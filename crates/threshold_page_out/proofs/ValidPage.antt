@@ -1,0 +1,69 @@
+-- What the tests of a Threshold Out page say of each element. Assumes nothing.
+use mathlib.Core.Path.{_≡_}
+use mathlib.Core.Bool.{true}
+use mathlib.Core.List.{List}
+use Prim.Native.Nat.{ℕ, _<_}
+use lib.Dec.{eqb}
+use lib.ListN.{getD}
+use Rattle.bits.specs.Places.{fourAt}
+use Rattle.bits.proofs.Logic.{below-at}
+use Rattle.element_verdict.specs.Thresholds.{had, ordered}
+use Rattle.element_verdict.proofs.ThresholdsTaken.{taken-had}
+use Rattle.refusals.specs.declared.Refusal.the-variants.{NotAllowed, NoSuchThreshold, ThresholdOrder}
+use Rattle.refusals.specs.declared.Answer.{Answer}
+use Rattle.refusals.specs.declared.Answer.the-variants.{Accepted}
+use Rattle.refusals.specs.Outcomes.{unless}
+use Rattle.refusals.proofs.AcceptedTests.{accepted, held, held-both}
+use Rattle.shelf.specs.Types.{elementsOf, kindAt}
+use Rattle.shelf.specs.Elements.{thresholdsAt}
+use Rattle.shelf_formed.specs.Formed.{wellFormed}
+use Rattle.shelf_formed.proofs.ElementTypes.{front-formed}
+use Rattle.shelf_formed.proofs.FormedShelf.{in-element}
+use Rattle.page.specs.Slots.{slotsOf, slotAt, slotPlace}
+use Rattle.page.specs.Places.{ownSlot, overallSlot, placesOf}
+use Rattle.page.specs.Header.{pageTested}
+use Rattle.page.proofs.HeaderTests.{asked-formed}
+use Rattle.page.proofs.ElementSlots.{own-kind, overall-kind, own-there, overall-there}
+use Rattle.threshold_rows.specs.Rows.{onPage, rowHad, allHad}
+use Rattle.threshold_page_out.specs.Taken.{thresholdsAfter}
+use Rattle.threshold_page_out.specs.Tests.{elementOrdered, allOrdered, thresholdsTested, valid}
+
+module _ (s p : List ℕ) (v : valid s p ≡ true) where
+  parts : (pageTested s p 0x05 ≡ Accepted) × (allHad s p onPage (slotsOf s) ≡ true) × (allOrdered s p ≡ true)
+  unfolding valid thresholdsTested
+  parts =
+      let r3 : Answer = unless (allOrdered s p) ThresholdOrder Accepted in
+      let r2 : Answer = unless (allHad s p onPage (slotsOf s)) NoSuchThreshold r3 in
+      let r1 : Answer = unless (eqb (getD p 1 0) 0) NotAllowed r2 in
+      let h = held-both (pageTested s p 0x05) r1 (accepted (thresholdsTested s p) v) in
+      let h1 = held (eqb (getD p 1 0) 0) NotAllowed r2 (h .1) in
+      let h2 = held (allHad s p onPage (slotsOf s)) NoSuchThreshold r3 (h1 .1) in
+      (h .0, h2 .0, held (allOrdered s p) ThresholdOrder Accepted (h2 .1) .0)
+
+  pub valid-headed : pageTested s p 0x05 ≡ Accepted
+  valid-headed = parts .0
+
+  pub valid-formed : wellFormed s ≡ true
+  valid-formed = asked-formed s p 0x05 valid-headed
+
+  row-had : (i : ℕ) → i < slotsOf s → had (slotAt s i .kind) (fourAt p (slotPlace i)) ≡ true
+  unfolding allHad rowHad
+  row-had i l = below-at (rowHad s p onPage) (slotsOf s) (parts .1) i l
+
+  module _ (j : ℕ) (l : j < elementsOf s) where
+    -- it has no threshold that its type doesn't have
+    pub after-had : had (kindAt s j) (thresholdsAfter s p j) ≡ true
+    unfolding thresholdsAfter placesOf
+    after-had =
+        let k = kindAt s j in
+        let e = front-formed s valid-formed in
+        let i = ownSlot s j in
+        let m = overallSlot s j in
+        let a : had k (fourAt p (slotPlace i)) ≡ true = rw (own-kind s j l) at (row-had i (own-there s j l e)) in
+        let b : had k (fourAt p (slotPlace m)) ≡ true = rw (overall-kind s j l) at (row-had m (overall-there s j l e)) in
+        taken-had k (fourAt p (slotPlace i)) (fourAt p (slotPlace m)) (thresholdsAt s j) a b (in-element s valid-formed j l .1)
+
+    -- and they are in order
+    pub after-ordered : ordered (kindAt s j) (thresholdsAfter s p j) ≡ true
+    unfolding allOrdered elementOrdered
+    after-ordered = below-at (elementOrdered s p) (elementsOf s) (parts .2) j l

@@ -1,0 +1,64 @@
+// Which Threshold Out pages a shelf accepts.
+use crate::acting;
+use element_verdict::thresholds;
+use page::places;
+use page::places::Places;
+use page::slots;
+use refusals::Answer;
+use refusals::Refusal;
+use shelf::types;
+ghost use mathlib.Core.Path.{_≡_};
+ghost use Rattle.shelf.specs.Limits.{HasElement};
+ghost use Rattle.page.specs.Places.{placesOf, HasSlots};
+ghost use Rattle.page.specs.Header.{HasPage};
+ghost use Rattle.threshold_page_out.specs.Tests.{elementOrdered, allOrdered, thresholdsTested};
+
+const CODE: u8 = 0x05;
+
+// Element j would keep the threshold order.
+fn element_ordered(shelf: &[u8], page: &[u8], at: Places, j: u16) -> bool
+    requires { ⌜ HasElement (now shelf) j ⌝ }
+    requires { ⌜ HasSlots (now page) at ⌝ }
+    requires { ⌜ at ≡ placesOf (now shelf) j ⌝ }
+    ensures { λ r. ⌜ r ≡ elementOrdered (now (shelf .entry)) (now (page .entry)) j ⌝ }
+{
+    let kind = at.kind;
+    thresholds::are_ordered(kind, acting::taken_at(shelf, page, at, j))
+}
+
+fn all_ordered(shelf: &[u8], page: &[u8]) -> bool
+    requires { ⌜ HasPage (now shelf) (now page) ⌝ }
+    ensures { λ r. ⌜ r ≡ allOrdered (now (shelf .entry)) (now (page .entry)) ⌝ }
+{
+    let n = types::all_elements(shelf);
+    let mut run = types::first_run(shelf);
+    let mut j: u16 = 0;
+    while j < n {
+        let here = types::run_to(shelf, run, j);
+        run = here;
+        if !element_ordered(shelf, page, places::places_in(here, j), j) {
+            return false;
+        }
+        j += 1;
+    }
+    true
+}
+
+pub fn test(shelf: &[u8], page: &[u8]) -> Answer
+    ensures { λ r. ⌜ r ≡ thresholdsTested (now (shelf .entry)) (now (page .entry)) ⌝ }
+{
+    let tested = page::testing::page(shelf, page, CODE);
+    let Answer::Accepted = tested else {
+        return tested;
+    };
+    if bits::byte_at(page, 1) != 0 {
+        return Answer::Refused(Refusal::NotAllowed);
+    }
+    if !threshold_rows::all_had(shelf, page, threshold_rows::ON_PAGE, slots::count(shelf)) {
+        return Answer::Refused(Refusal::NoSuchThreshold);
+    }
+    if !all_ordered(shelf, page) {
+        return Answer::Refused(Refusal::ThresholdOrder);
+    }
+    tested
+}

@@ -1,26 +1,34 @@
 -- The bits of one byte, 7 the highest and 0 the lowest. Assumes nothing.
-use mathlib.Core.Bool.{Bool, true, false, not, _||_}
+use mathlib.Core.Bool.{Bool, true, false}
 use mathlib.Core.List.{List, [], _∷_}
 use Prim.Native.Nat.{ℕ, _+_, _*_, _/_, _%_, _^_}
+use lib.Bits.{bitAnd}
 use lib.Dec.{eqb}
-use Rattle.bits.specs.Choice.{allBelow}
 
 -- 1 for true and 0 for false
 abbrev pub num : Bool → ℕ
 num true = 1
 num false = 0
 
--- bit k of the byte b
-abbrev pub bit : ℕ → ℕ → Bool
-bit k b = eqb (b / 2 ^ k % 2) 1
+-- bit k of the byte b, as a number and as a flag
+abbrev pub bitOf : ℕ → ℕ → ℕ
+bitOf k b = b / 2 ^ k % 2
 
-abbrev pub among : ℕ → List ℕ → Bool
-among k [] = false
-among k (x ∷ xs) = eqb k x || among k xs
+abbrev pub bit : ℕ → ℕ → Bool
+bit k b = eqb (bitOf k b) 1
+
+-- the number that has these bits and no other
+abbrev pub maskOf : List ℕ → ℕ
+maskOf [] = 0
+maskOf (k ∷ ks) = 2 ^ k + maskOf ks
+
+-- no bit of the byte is set but those of the mask m
+abbrev pub within : ℕ → ℕ → Bool
+within m b = eqb (bitAnd b m) b
 
 -- no bit of the byte is set but these
 abbrev pub only : List ℕ → ℕ → Bool
-only ks b = allBelow (λ k. among k ks || not (bit k b)) 8
+only ks b = within (maskOf ks) b
 
 -- four flags as half a byte, the first the highest
 abbrev pub nibble : Bool → Bool → Bool → Bool → ℕ

@@ -18,10 +18,11 @@ use Rattle.element.specs.declared.settings.Settings.{Settings}
 use Rattle.element.specs.declared.control.Control.{Control}
 use Rattle.element.specs.Settings.{settingsOf, settingsBytes, settingsFormed}
 use Rattle.element.specs.Control.{selected, unselected, asking, controlOf, offending, chosen, speedAfter, acted, settled}
-use Rattle.element.proofs.SettingsBothWays.{four, settings-back, settings-again, settings-storable, asked-storable, in-settings}
+use Rattle.element.proofs.SettingsBothWays.{four}
+use Rattle.element.proofs.StoredSettings.{settings-back, settings-again, settings-storable, asked-storable}
 use Rattle.element.proofs.Acting.{settled-length}
 use Rattle.build_element.specs.Wishes.{silent, alike, requestBytes, requestFor, clearing, turning, own, brings, one}
-use Rattle.build_element.proofs.TypeFacts.{ask-order, storable-small, no-stop, request-storable}
+use Rattle.build_element.proofs.SoundLayout.{ask-order, no-stop, request-storable}
 use Rattle.build_element.proofs.Requests.{Reaches, ask-again, request-reaches, request-is, reaches-it}
 use Rattle.build_element.proofs.RequestSays.{ask-selected, ask-fine, ask-length, ask-small, ask-control, silent-control, silent-fine}
 
@@ -107,7 +108,7 @@ row-asks k c q t =
     let b = q .1 in
     let v = as-four c (q .0) in
     ap (λ (y : List ℕ). requestBytes k (settingsOf k y)) v
-    ∙ ask-again k (getD c 0 0) (getD c 1 0) (getD c 2 0) (getD c 3 0) (b 0) (b 1) (b 3) (ap selected (sym v) ∙ t) (ap (offending k) (sym v) ∙ q .2)
+    ∙ ask-again k (getD c 0 0) (getD c 1 0) (getD c 2 0) (getD c 3 0) (b 0) (b 3) (ap selected (sym v) ∙ t) (ap (offending k) (sym v) ∙ q .2)
     ∙ sym v
 
 module _ (k : Kind) (e w : List ℕ) where
@@ -118,12 +119,12 @@ module _ (k : Kind) (e w : List ℕ) where
   x = settingsOf k w
 
   -- what a selected element says that brings e to w
-  pub selected-acts : (c : List ℕ) → selected c ≡ true → settled k (controlOf k c) e ≡ w → acted (asking (settingsOf k c)) s ≡ x
+  pub selected-acts : (c : List ℕ) → selected c ≡ true → settled k (controlOf k c) e ≡ w → acted (settingsOf k c) s ≡ x
   unfolding settled controlOf
   selected-acts c t h =
       let r = settingsOf k c in
-      let g : settingsBytes k (acted (asking r) s) ≡ w = sym (ap (λ (b : Bool). pick (pick b (asking r) unselected .select) (settingsBytes k (acted (pick b (asking r) unselected) s)) e) t) ∙ h in
-      sym (settings-back k (acted (asking r) s) (asked-storable k r s (settings-storable k c) (settings-storable k e))) ∙ ap (settingsOf k) g
+      let g : settingsBytes k (acted r s) ≡ w = sym (ap (λ (b : Bool). pick (pick b (asking r) unselected .select) (settingsBytes k (acted (pick b (asking r) unselected .request) s)) e) t) ∙ h in
+      sym (settings-back k (acted r s) (asked-storable k r s (settings-storable k c) (settings-storable k e))) ∙ ap (settingsOf k) g
 
   own-first : (c : List ℕ) → Row k c → selected c ≡ true → settled k (controlOf k c) e ≡ w → InOrder (own k e w) c
   unfolding own
@@ -134,7 +135,8 @@ module _ (k : Kind) (e w : List ℕ) where
       let l = ask-order k x (clearing s x) (r .swap) (turning (s .speed) (x .speed)) (r .speed)
       (λ g. clearing-needed (s .swap) (x .swap) (r .swap) g (z .0))
       (turning-needed (s .speed) (x .speed) (r .speed) (z .1))
-      (storable-small k r (settings-storable k c)) in
+      (request-storable k s x (settings-storable k w) .3)
+      (settings-storable k c .3) in
       let u = row-asks k c q t in
       rw (← u) (rw (← (request-is s x r f)) at l)
 
@@ -160,13 +162,13 @@ module _ (k : Kind) (e w : List ℕ) where
         ∙ sym v
 
     own-request : Reaches s x (clearing s x) (turning (s .speed) (x .speed))
-    own-request = (cleared (s .swap) (x .swap) (g .3), turned (s .speed) (x .speed) (no-stop k e w (in-settings k w (g .2) .4)))
+    own-request = (cleared (s .swap) (x .swap) (g .3), turned (s .speed) (x .speed) (no-stop k e w (g .2)))
 
     own-reaches : settled k (controlOf k (own k e w)) e ≡ w
     unfolding own settled
     own-reaches =
         let r = requestFor x (clearing s x) (turning (s .speed) (x .speed)) in
-        ap (λ (c : Control). pick (c .select) (settingsBytes k (acted c s)) e) (ask-control k r (request-storable k s x (settings-storable k w)))
+        ap (λ (c : Control). pick (c .select) (settingsBytes k (acted (c .request) s)) e) (ask-control k r (request-storable k s x (settings-storable k w)))
         ∙ ap (settingsBytes k) (request-reaches s x (clearing s x) (turning (s .speed) (x .speed)) own-request)
         ∙ stored-is
 

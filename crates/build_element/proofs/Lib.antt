@@ -1,4 +1,4 @@
-pub mod TypeFacts
+pub mod SoundLayout
 pub mod RequestBytes
 pub mod Requests
 pub mod RequestSays

@@ -17,7 +17,7 @@ use Rattle.element.specs.declared.control.Control.{Control}
 use Rattle.element.specs.Settings.{settingsOf, settingsBytes}
 use Rattle.element.specs.Control.{acted, settled}
 use Rattle.build_element.specs.Wishes.{inReach, alike, silent, withSelect, requestBytes, requestFor, clearing, turning, own, brings, one}
-use Rattle.build_element.proofs.TypeFacts.{first-small}
+use Rattle.build_element.proofs.SoundLayout.{first-small}
 use Rattle.build_element.specs.Parts.{tried, tries, sooner}
 
 or-select : (x : ℕ) → x < 128 → bitOr x 128 ≡ 128 + x
@@ -41,7 +41,7 @@ unfolding own
 own-is k e w p q u g h = h ∙ rw (g, u, p, q)
 
 module _ (k : Kind) (c : Control) (e w : List ℕ) where
-  pub acts-is : {s x : Settings} {y : List ℕ} {b : Bool} → c .select ≡ true → s ≡ settingsOf k e → x ≡ acted c s → y ≡ settingsBytes k x → b ≡ alike y w → b ≡ brings k c e w
+  pub acts-is : {s x : Settings} {y : List ℕ} {b : Bool} → c .select ≡ true → s ≡ settingsOf k e → x ≡ acted (c .request) s → y ≡ settingsBytes k x → b ≡ alike y w → b ≡ brings k c e w
   unfolding brings settled
   acts-is t hs hx hy h = h ∙ rw (hy, hx, hs, t)
 

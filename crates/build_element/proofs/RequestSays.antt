@@ -12,11 +12,13 @@ use Rattle.bits.proofs.Logic.{pick-yes, and-both, four-pass, byByteIf}
 use Rattle.bits.proofs.Rows.{as-four}
 use Rattle.element.specs.declared.types.Kind.{Kind}
 use Rattle.element.specs.declared.settings.Settings.{Settings}
+use Rattle.element.specs.Types.{layoutOf}
 use Rattle.element.specs.Settings.{settingsOf, settingsBytes}
 use Rattle.element.specs.Control.{selected, unselected, asking, controlOf, offending}
-use Rattle.element.proofs.SettingsBothWays.{Storable, length-bytes, settings-back, first-clear, second-named, third-none, fourth-named}
-use Rattle.build_element.specs.Wishes.{silent, requestBytes}
-use Rattle.build_element.proofs.TypeFacts.{heading, first-small, stored-small, rest-same}
+use Rattle.element.proofs.SettingsBothWays.{first-clear, second-clear, third-clear, fourth-clear}
+use Rattle.element.proofs.StoredSettings.{sound, reserved-unnamed, Storable, settings-back, length-bytes}
+use Rattle.build_element.specs.Wishes.{silent, withSelect, requestBytes}
+use Rattle.build_element.proofs.SoundLayout.{heading, first-small, stored-small, rest-same}
 
 head-only : (x : ℕ) → x < 256 → only (6 ∷ 5 ∷ 4 ∷ []) x ≡ true → only (7 ∷ 6 ∷ 5 ∷ 4 ∷ []) (128 + x) ≡ true
 head-only = byByteIf (only (6 ∷ 5 ∷ 4 ∷ [])) (λ x. only (7 ∷ 6 ∷ 5 ∷ 4 ∷ []) (128 + x)) refl
@@ -26,17 +28,19 @@ head-selects x h = byByteIf (λ b. ltb b 128) (λ b. bit 7 (128 + b)) refl x (om
 
 module _ (k : Kind) (r : Settings) where
   head-only-at : only (7 ∷ 6 ∷ 5 ∷ 4 ∷ []) (128 + getD (settingsBytes k r) 0 0) ≡ true
-  head-only-at = head-only (getD (settingsBytes k r) 0 0) (omega (arith, first-small k r)) (first-clear k r)
+  unfolding settingsBytes
+  head-only-at = head-only (getD (settingsBytes k r) 0 0) (omega (arith, first-small k r)) (first-clear (layoutOf k) (sound k) r)
 
   pub ask-selected : selected (requestBytes k r) ≡ true
   unfolding requestBytes
   ask-selected = head-selects (getD (settingsBytes k r) 0 0) (first-small k r)
 
   pub ask-fine : offending k (requestBytes k r) ≡ 4
-  unfolding offending requestBytes
+  unfolding offending requestBytes settingsBytes
   ask-fine =
       pick-yes (bit 7 (128 + getD (settingsBytes k r) 0 0)) _ 4 (head-selects (getD (settingsBytes k r) 0 0) (first-small k r))
-      ∙ four-pass head-only-at (second-named k r) (third-none k r) (fourth-named k r)
+      ∙ sym (reserved-unnamed k (withSelect (settingsBytes k r)))
+      ∙ four-pass head-only-at (second-clear (layoutOf k) (sound k) r) (third-clear (layoutOf k) (sound k) r) (fourth-clear (layoutOf k) (sound k) r)
 
   pub ask-length : length (requestBytes k r) ≡ 4
   unfolding requestBytes

@@ -5,17 +5,20 @@ use mathlib.Core.List.{[], _∷_}
 use mathlib.Core.Logic.{_⊎_, inl, inr}
 use Prim.Native.Nat.{ℕ, _+_, _-_, _<_}
 use native.Mathlib.Omega.{arith}
+use lib.Bits.{bitOr}
 use lib.Dec.{eqb}
 use borrow.Author.Tests.{eqb-true}
-use Rattle.bits.specs.Bits.{only}
+use Rattle.bits.specs.Bits.{within, only}
 use Rattle.bits.proofs.Logic.{by-case, pick-yes, all-four, byByteIf}
 use Rattle.element.specs.declared.types.Kind.{Kind}
 use Rattle.element.specs.declared.settings.Settings.{Settings}
-use Rattle.element.specs.Settings.{settingsOf, settingsBytes, secondNamed, fourthNamed}
-use Rattle.element.specs.Control.{selected, asking, offending, speedAfter, acted}
+use Rattle.element.specs.Types.{layoutOf}
+use Rattle.element.specs.Settings.{settingsOf, settingsBytes}
+use Rattle.element.specs.Control.{selected, offending, speedAfter, acted}
 use Rattle.build_element.specs.Wishes.{withSelect, requestBytes, requestFor}
-use Rattle.element.proofs.SettingsBothWays.{kind-again}
-use Rattle.build_element.proofs.TypeFacts.{heading, rest-same}
+use Rattle.element.proofs.SettingsBothWays.{again}
+use Rattle.element.proofs.StoredSettings.{sound, reserved-unnamed}
+use Rattle.build_element.proofs.SoundLayout.{heading, rest-same}
 
 head-rest : (a : ℕ) → a < 256 → heading a ≡ true → only (6 ∷ 5 ∷ 4 ∷ []) (a - 128) ≡ true
 head-rest = byByteIf heading (λ a. only (6 ∷ 5 ∷ 4 ∷ []) (a - 128)) refl
@@ -24,13 +27,15 @@ head-high : (a : ℕ) → a < 256 → heading a ≡ true → 128 + (a - 128) ≡
 head-high a h e = eqb-true (128 + (a - 128)) a (byByteIf heading (λ a. eqb (128 + (a - 128)) a) refl a h e)
 
 -- a selected element without a reserved bit is the one that asks for what it says
-pub ask-again : (k : Kind) (a b c d : ℕ) → a < 256 → b < 256 → d < 256 → selected (a ∷ b ∷ c ∷ d ∷ []) ≡ true → offending k (a ∷ b ∷ c ∷ d ∷ []) ≡ 4
+pub ask-again : (k : Kind) (a b c d : ℕ) → a < 256 → d < 256 → selected (a ∷ b ∷ c ∷ d ∷ []) ≡ true → offending k (a ∷ b ∷ c ∷ d ∷ []) ≡ 4
     → requestBytes k (settingsOf k (a ∷ b ∷ c ∷ d ∷ [])) ≡ a ∷ b ∷ c ∷ d ∷ []
-unfolding requestBytes offending
-ask-again k a b c d ha hb hd t e =
-    let h = all-four (only (7 ∷ 6 ∷ 5 ∷ 4 ∷ []) a) (secondNamed k b) (eqb c 0) (fourthNamed k d) (sym (pick-yes _ _ _ t) ∙ e) in
+unfolding requestBytes offending settingsBytes settingsOf
+ask-again k a b c d ha hd t e =
+    let l = layoutOf k in
+    let u = reserved-unnamed k (a ∷ b ∷ c ∷ d ∷ []) ∙ sym (pick-yes _ _ _ t) ∙ e in
+    let h = all-four (only (7 ∷ 6 ∷ 5 ∷ 4 ∷ []) a) (within (l .flags1) b) (within (l .flags2) c) (within (bitOr (l .flags3) (l .speed)) d) u in
     let g : heading a ≡ true = rw (t, h .0) in
-    let r = kind-again k (a - 128) b c d (omega arith) hb hd (head-rest a ha g) (h .1) (h .2) (h .3) in
+    let r = again l (sound k) (a - 128) b c d (omega arith) hd (head-rest a ha g) (h .1) (h .2) (h .3) in
     ap (λ (s : Settings). withSelect (settingsBytes k s)) (rest-same k a b c d ha g)
     ∙ ap withSelect r
     ∙ ap (λ (x : ℕ). x ∷ b ∷ c ∷ d ∷ []) (head-high a ha g)
@@ -39,21 +44,21 @@ ask-again k a b c d ha hb hd t e =
 abbrev pub Reaches : Settings → Settings → Bool → ℕ → Type 0
 Reaches s w reset code = (s .swap && not reset ≡ w .swap) × (speedAfter code (s .speed) ≡ w .speed)
 
-pub request-reaches : (s w : Settings) (reset : Bool) (code : ℕ) → Reaches s w reset code → acted (asking (requestFor w reset code)) s ≡ w
+pub request-reaches : (s w : Settings) (reset : Bool) (code : ℕ) → Reaches s w reset code → acted (requestFor w reset code) s ≡ w
 request-reaches s w reset code h =
     let x = h .0 in
     let y = h .1 in
-    λ i. record { prdfail = w .prdfail; disabled = w .disabled; swap = x i; ident = w .ident; fail = w .fail; on = w .on; speed = y i }
+    λ i. record { prdfail = w .prdfail; disabled = w .disabled; swap = x i; flags1 = w .flags1; flags2 = w .flags2; flags3 = w .flags3; speed = y i }
 
-module _ (s w r : Settings) (e : acted (asking r) s ≡ w) where
+module _ (s w r : Settings) (e : acted r s ≡ w) where
   pub request-is : r ≡ requestFor w (r .swap) (r .speed)
   request-is =
       let p = ap (λ (x : Settings). x .prdfail) e in
       let d = ap (λ (x : Settings). x .disabled) e in
-      let n = ap (λ (x : Settings). x .ident) e in
-      let f = ap (λ (x : Settings). x .fail) e in
-      let o = ap (λ (x : Settings). x .on) e in
-      λ i. record { prdfail = p i; disabled = d i; swap = r .swap; ident = n i; fail = f i; on = o i; speed = r .speed }
+      let x = ap (λ (x : Settings). x .flags1) e in
+      let y = ap (λ (x : Settings). x .flags2) e in
+      let z = ap (λ (x : Settings). x .flags3) e in
+      λ i. record { prdfail = p i; disabled = d i; swap = r .swap; flags1 = x i; flags2 = y i; flags3 = z i; speed = r .speed }
 
   pub reaches-it : Reaches s w (r .swap) (r .speed)
   reaches-it = (ap (λ (x : Settings). x .swap) e, ap (λ (x : Settings). x .speed) e)

@@ -36,9 +36,9 @@ requestFor w reset code = record {
   prdfail = w .prdfail;
   disabled = w .disabled;
   swap = reset;
-  ident = w .ident;
-  fail = w .fail;
-  on = w .on;
+  flags1 = w .flags1;
+  flags2 = w .flags2;
+  flags3 = w .flags3;
   speed = code;
 }
 

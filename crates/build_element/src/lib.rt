@@ -47,9 +47,9 @@ fn request(wanted: Settings, reset: bool, code: u8) -> Settings
         prdfail: wanted.prdfail,
         disabled: wanted.disabled,
         swap: reset,
-        ident: wanted.ident,
-        fail: wanted.fail,
-        on: wanted.on,
+        flags1: wanted.flags1,
+        flags2: wanted.flags2,
+        flags3: wanted.flags3,
         speed: code,
     }
 }

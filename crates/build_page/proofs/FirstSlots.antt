@@ -18,6 +18,7 @@ use Rattle.build_order.specs.Order.{NotAfter}
 use Rattle.build_order.proofs.ByCount.{after-refl, after-append, joined-split, sum-same, sum-split}
 use Rattle.element.specs.declared.types.Kind.{Kind}
 use Rattle.element.specs.Control.{selected, offending, controlOf, chosen, settled}
+use Rattle.element.proofs.StoredSettings.{reserved-unnamed}
 use Rattle.build_element.specs.Wishes.{one}
 use Rattle.build_element.specs.Parts.{selects, under, cost, part, bestOf, overallFor}
 use Rattle.build_element.proofs.FirstElement.{Row, one-row}
@@ -43,7 +44,7 @@ sum-one f = omega arith
 
 four-or-less : (k : Kind) (c : List ℕ) → offending k c ≤ 4
 unfolding offending
-four-or-less k c = go (selected c) (first-small _ _ _ _)
+four-or-less k c = go (selected c) (rw (← (reserved-unnamed k c)) (first-small _ _ _ _))
   where
     go : (t : Bool) {n : ℕ} → n ≤ 4 → pick t n 4 ≤ 4
     go true h = h

@@ -35,7 +35,7 @@ use Rattle.control_page.specs.Brought.{actingAt, settingsAfter, broughtT
 -- one element
 module _ (s : List ℕ) (j : ℕ) where
   pub acted-by : (k : Kind) (e : List ℕ) {f g o : List ℕ} {c : Control} {x y : Settings} → selected e ≡ true → c ≡ controlOf k e → f ≡ settingsAt s j
-      → x ≡ settingsOf k f → y ≡ acted c x → g ≡ settingsBytes k y → o ≡ settingsPut s j g
+      → x ≡ settingsOf k f → y ≡ acted (c .request) x → g ≡ settingsBytes k y → o ≡ settingsPut s j g
       → o ≡ settingsPut s j (settled k (controlOf k e) (settingsAt s j))
   acted-by k e t hc hf hx hy hg ho = ho ∙ ap (settingsPut s j) (hg ∙ rw (hy, hx, hc, hf) (sym (settled-by k e (settingsAt s j) t)))
 

@@ -12,7 +12,7 @@ use Rattle.element.specs.declared.settings.Settings.{Settings}
 use Rattle.element.specs.declared.control.Control.{Control}
 use Rattle.element.specs.Settings.{settingsOf, settingsBytes, settingsFormed}
 use Rattle.element.specs.Control.{selected, unselected, asking, controlOf, chosen, speedAfter, acted, settled}
-use Rattle.element.proofs.SettingsBothWays.{Storable, length-bytes, settings-back, settings-storable, asked-storable, acted-formed}
+use Rattle.element.proofs.StoredSettings.{Storable, length-bytes, settings-back, settings-storable, asked-storable, acted-formed}
 
 swap-twice : (s r : Bool) → (s && not r) && not r ≡ s && not r
 swap-twice true true = refl
@@ -26,17 +26,17 @@ speed-twice code stored = go (eqb code 0)
     go true = refl
     go false = refl
 
-acted-twice : (c : Control) (s : Settings) → acted c (acted c s) ≡ acted c s
-acted-twice c s =
-    let w = swap-twice (s .swap) (c .rstswap) in
-    let v = speed-twice (c .speed) (s .speed) in
+acted-twice : (r s : Settings) → acted r (acted r s) ≡ acted r s
+acted-twice r s =
+    let w = swap-twice (s .swap) (r .swap) in
+    let v = speed-twice (r .speed) (s .speed) in
     λ i. record {
-      prdfail = c .prdfail;
-      disabled = c .disable;
+      prdfail = r .prdfail;
+      disabled = r .disabled;
       swap = w i;
-      ident = c .ident;
-      fail = c .fail;
-      on = c .on;
+      flags1 = r .flags1;
+      flags2 = r .flags2;
+      flags3 = r .flags3;
       speed = v i;
     }
 
@@ -44,8 +44,8 @@ pub settled-length : (k : Kind) (c : Control) (e : List ℕ) → length e ≡ 4 
 unfolding settled
 settled-length k c e h = go (c .select)
   where
-    go : (t : Bool) → length (pick t (settingsBytes k (acted c (settingsOf k e))) e) ≡ 4
-    go true = length-bytes k (acted c (settingsOf k e))
+    go : (t : Bool) → length (pick t (settingsBytes k (acted (c .request) (settingsOf k e))) e) ≡ 4
+    go true = length-bytes k (acted (c .request) (settingsOf k e))
     go false = h
 
 -- which of two acts
@@ -68,7 +68,7 @@ module _ (k : Kind) where
     overall-acts h = pick-no _ _ _ (select-of own ∙ h)
 
   -- what it makes of the stored settings
-  pub settled-by : (e x : List ℕ) → selected e ≡ true → settled k (controlOf k e) x ≡ settingsBytes k (acted (controlOf k e) (settingsOf k x))
+  pub settled-by : (e x : List ℕ) → selected e ≡ true → settled k (controlOf k e) x ≡ settingsBytes k (acted (controlOf k e .request) (settingsOf k x))
   unfolding settled
   settled-by e x h = pick-yes _ _ _ (select-of e ∙ h)
 
@@ -90,12 +90,12 @@ module _ (k : Kind) where
       go false false = u
 
   twice : (e : List ℕ) (r : Settings) → Storable k r
-      → settingsBytes k (acted (asking r) (settingsOf k (settingsBytes k (acted (asking r) (settingsOf k e)))))
-      ≡ settingsBytes k (acted (asking r) (settingsOf k e))
+      → settingsBytes k (acted r (settingsOf k (settingsBytes k (acted r (settingsOf k e)))))
+      ≡ settingsBytes k (acted r (settingsOf k e))
   twice e r l =
       let s = settingsOf k e in
-      ap (λ (x : Settings). settingsBytes k (acted (asking r) x)) (settings-back k (acted (asking r) s) (asked-storable k r s l (settings-storable k e)))
-      ∙ ap (settingsBytes k) (acted-twice (asking r) s)
+      ap (λ (x : Settings). settingsBytes k (acted r x)) (settings-back k (acted r s) (asked-storable k r s l (settings-storable k e)))
+      ∙ ap (settingsBytes k) (acted-twice r s)
 
   module _ (overall own e : List ℕ) where
     -- settings that the type may have stay such
@@ -122,7 +122,7 @@ module _ (k : Kind) where
         by-chosen (λ (c : Control). settingsOf k (settled k c e) .swap ≡ true → settingsOf k e .swap ≡ true) (λ h. h)
         (λ r l h.
         let s = settingsOf k e in
-        let b = settings-back k (acted (asking r) s) (asked-storable k r s l (settings-storable k e)) in
+        let b = settings-back k (acted r s) (asked-storable k r s l (settings-storable k e)) in
         and-left (s .swap) (not (r .swap)) (sym (ap (λ (x : Settings). x .swap) b) ∙ h))
         overall
         own

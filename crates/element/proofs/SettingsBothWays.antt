@@ -1,60 +1,21 @@
--- Settings and the four bytes that store them say the same, each way round, and a control element keeps them storable. Assumes nothing.
-use mathlib.Core.Path.{_≡_, refl, sym, _∙_}
-use mathlib.Core.Bool.{Bool, true, false}
+-- Settings and the four bytes that store them say the same, each way round, under any layout whose masks are sound. Assumes nothing.
+use mathlib.Core.Path.{_≡_, refl, sym, ap, _∙_}
+use mathlib.Core.Bool.{Bool, true, false, not, _&&_, _||_}
 use mathlib.Core.List.{List, [], _∷_}
-use Prim.Native.Nat.{ℕ, _%_, _<_}
-use native.Mathlib.Omega.{arith}
-use lib.Dec.{eqb}
+use Prim.Native.Nat.{ℕ, _<_}
+use lib.Bits.{bitAnd, bitOr}
+use lib.Dec.{eqb, leb}
 use lib.ListN.{length, getD}
-use borrow.Author.Tests.{eqb-true, not-true}
+use borrow.Author.Tests.{eqb-true, eq-eqb, not-true}
 use Rattle.bits.specs.Choice.{pick}
-use Rattle.bits.specs.Bits.{bit, only, nibble, join}
+use Rattle.bits.specs.Bits.{bit, within, only, nibble, join}
 use Rattle.bits.proofs.Logic.{and-both, and-five}
-use Rattle.bits.proofs.Halves.{flags-high, join-low, join-three, low-three, again-byte}
-use Rattle.element.specs.declared.types.Kind.{Kind}
-use Rattle.element.specs.declared.types.Kind.the-variants.{Cooling, Temperature, Voltage, Current}
+use Rattle.bits.proofs.Halves.{flags-high, again-byte}
+use Rattle.element.specs.declared.layout.Layout.{Layout}
 use Rattle.element.specs.declared.settings.Settings.{Settings}
-use Rattle.element.specs.Settings.{Layout, fan, sensor, layoutOf, fanSettings, sensorSettings, settingsOf, fanBytes, sensorBytes, settingsBytes, secondNamed, fourthNamed, speedFormed, settingsFormed}
-use Rattle.element.specs.Control.{asking, speedAfter, acted}
-
--- ON and SPEED, which fans alone have, are as a sensor's bytes say them
-abbrev pub Fanless : Settings → Type 0
-Fanless s = (s .on ≡ false) × (s .speed ≡ 0)
-
--- the type's four bytes have a place for every field
-abbrev pub Storable : Kind → Settings → Type 0
-Storable Cooling s = s .speed < 8
-Storable Temperature s = Fanless s
-Storable Voltage s = Fanless s
-Storable Current s = Fanless s
-
--- the settings are read whatever else stands in the low halves of bytes 0 and 1, in byte 2, and in bit 4 of a fan's byte 3 or all of
--- a sensor's: a status element has them in the same places
-pub fan-back : (s : Settings) (m l c : ℕ) (o : Bool) → s .speed < 8
-    → let a : ℕ = join (nibble false (s .prdfail) (s .disabled) (s .swap)) m in
-    let b : ℕ = join (nibble (s .ident) false false false) l in
-    let d : ℕ = join (nibble false (s .fail) (s .on) o) (s .speed % 8) in fanSettings (a ∷ b ∷ c ∷ d ∷ []) ≡ s
-fan-back s m l c o h =
-    let x = flags-high false (s .prdfail) (s .disabled) (s .swap) m in
-    let y = flags-high (s .ident) false false false l in
-    let z = flags-high false (s .fail) (s .on) o (s .speed % 8) in
-    let n : join (nibble false (s .fail) (s .on) o) (s .speed % 8) % 8 ≡ s .speed = join-three _ (s .speed) ∙ omega arith in
-    λ i. record { prdfail = x .1 i; disabled = x .2 i; swap = x .3 i; ident = y .0 i; fail = z .1 i; on = z .2 i; speed = n i }
-
-pub sensor-back : (s : Settings) (m l : ℕ) (e : List ℕ) → Fanless s
-    → sensorSettings (join (nibble false (s .prdfail) (s .disabled) (s .swap)) m ∷ join (nibble (s .ident) (s .fail) false false) l ∷ e) ≡ s
-sensor-back s m l e h =
-    let x = flags-high false (s .prdfail) (s .disabled) (s .swap) m in
-    let y = flags-high (s .ident) (s .fail) false false l in
-    λ i. record {
-      prdfail = x .1 i;
-      disabled = x .2 i;
-      swap = x .3 i;
-      ident = y .0 i;
-      fail = y .1 i;
-      on = sym (h .0) i;
-      speed = sym (h .1) i;
-    }
+use Rattle.element.specs.Layouts.{said, stored, formed, unnamed}
+use Rattle.element.specs.Control.{speedAfter, acted}
+use Rattle.element.proofs.Flags.{keeps, mixes, splits, kept-twice, kept-within, kept-small, code-small, mix-flags, mix-speed, mix-within, split-again}
 
 pub four : {a b c d p q r s : ℕ} → a ≡ p → b ≡ q → c ≡ r → d ≡ s → _≡_ {A = List ℕ} (a ∷ b ∷ c ∷ d ∷ []) (p ∷ q ∷ r ∷ s ∷ [])
 four x y z w = λ i. x i ∷ y i ∷ z i ∷ w i ∷ []
@@ -62,34 +23,91 @@ four x y z w = λ i. x i ∷ y i ∷ z i ∷ w i ∷ []
 first-again : (a : ℕ) → a < 256 → only (6 ∷ 5 ∷ 4 ∷ []) a ≡ true → join (nibble false (bit 6 a) (bit 5 a) (bit 4 a)) 0 ≡ a
 first-again = again-byte (6 ∷ 5 ∷ 4 ∷ []) (λ a. join (nibble false (bit 6 a) (bit 5 a) (bit 4 a)) 0) refl
 
-pub ident-fail-again : (b : ℕ) → b < 256 → only (7 ∷ 6 ∷ []) b ≡ true → join (nibble (bit 7 b) (bit 6 b) false false) 0 ≡ b
-ident-fail-again = again-byte (7 ∷ 6 ∷ []) (λ b. join (nibble (bit 7 b) (bit 6 b) false false) 0) refl
+-- the byte that flags make has no other bit
+first-only : (a b c : Bool) → only (6 ∷ 5 ∷ 4 ∷ []) (join (nibble false a b c) 0) ≡ true
+first-only true true true = refl
+first-only true true false = refl
+first-only true false true = refl
+first-only true false false = refl
+first-only false true true = refl
+first-only false true false = refl
+first-only false false true = refl
+first-only false false false = refl
 
-speed-again : (d : ℕ) → d < 256 → only (6 ∷ 5 ∷ 2 ∷ 1 ∷ 0 ∷ []) d ≡ true → join (nibble false (bit 6 d) (bit 5 d) false) (d % 8 % 8) ≡ d
-speed-again = again-byte (6 ∷ 5 ∷ 2 ∷ 1 ∷ 0 ∷ []) (λ d. join (nibble false (bit 6 d) (bit 5 d) false) (d % 8 % 8)) refl
+-- what a layout keeps to: its masks are bytes, flags and speed stand apart, and a speed code has three bits
+module _ (l : Layout) where
+  pub record Sound : Type 0 where
+    pub keeps1 : keeps (l .flags1) ≡ true
+    pub keeps2 : keeps (l .flags2) ≡ true
+    pub keeps3 : keeps (l .flags3) ≡ true
+    pub speeds : keeps (l .speed) ≡ true
+    pub three : leb (l .speed) 7 ≡ true
+    pub apart : mixes (l .flags3) (l .speed) ≡ true
+    pub whole : splits (l .flags3) (l .speed) ≡ true
 
-module _ (a b c d : ℕ) (ha : a < 256) (hb : b < 256) (hd : d < 256) (f : only (6 ∷ 5 ∷ 4 ∷ []) a ≡ true) where
-  fan-again : only (7 ∷ []) b ≡ true → eqb c 0 ≡ true → only (6 ∷ 5 ∷ 2 ∷ 1 ∷ 0 ∷ []) d ≡ true
-      → fanBytes (fanSettings (a ∷ b ∷ c ∷ d ∷ [])) ≡ a ∷ b ∷ c ∷ d ∷ []
-  fan-again y z w =
-      four (first-again a ha f)
-      (again-byte (7 ∷ []) (λ b. join (nibble (bit 7 b) false false false) 0) refl b hb y)
-      (sym (eqb-true c 0 z))
-      (speed-again d hd w)
+  -- settings that the layout has a place for
+  abbrev pub Placed : Settings → Type 0
+  Placed s =
+      (bitAnd (s .flags1) (l .flags1) ≡ s .flags1)
+      × (bitAnd (s .flags2) (l .flags2) ≡ s .flags2)
+      × (bitAnd (s .flags3) (l .flags3) ≡ s .flags3)
+      × (bitAnd (s .speed) (l .speed) ≡ s .speed)
 
-  sensor-again : only (7 ∷ 6 ∷ []) b ≡ true → eqb c 0 ≡ true → eqb d 0 ≡ true
-      → sensorBytes (sensorSettings (a ∷ b ∷ c ∷ d ∷ [])) ≡ a ∷ b ∷ c ∷ d ∷ []
-  sensor-again y z w = four (first-again a ha f) (ident-fail-again b hb y) (sym (eqb-true c 0 z)) (sym (eqb-true d 0 w))
+module _ (l : Layout) (h : Sound l) where
+  -- stored settings are read back, whatever else the low half of byte 0 has
+  pub back : (s : Settings) → Placed l s → said l (stored l s) ≡ s
+  back s p =
+      let x = flags-high false (s .prdfail) (s .disabled) (s .swap) 0 in
+      let f = mix-flags (l .flags3) (l .speed) (h .keeps3) (h .speeds) (h .three) (h .apart) (s .flags3) (s .speed) (p .2) (p .3) in
+      let n = mix-speed (l .flags3) (l .speed) (h .keeps3) (h .speeds) (h .three) (h .apart) (s .flags3) (s .speed) (p .2) (p .3) in
+      let m : bitOr (bitAnd (s .flags3) (l .flags3)) (bitAnd (s .speed) (l .speed)) ≡ bitOr (s .flags3) (s .speed) = λ i. bitOr (p .2 i) (p .3 i) in
+      let u = ap (λ (z : ℕ). bitAnd z (l .flags3)) m ∙ f in
+      let w = ap (λ (z : ℕ). bitAnd z (l .speed)) m ∙ n in
+      let a = ap (λ (z : ℕ). bitAnd z (l .flags1)) (p .0) ∙ p .0 in
+      let b = ap (λ (z : ℕ). bitAnd z (l .flags2)) (p .1) ∙ p .1 in
+      λ i. record { prdfail = x .1 i; disabled = x .2 i; swap = x .3 i; flags1 = a i; flags2 = b i; flags3 = u i; speed = w i }
 
-speed-small : (a b : ℕ) → a < 8 → b < 8 → speedAfter a b < 8
-speed-small a b h l = go (eqb a 0)
+  -- what is read has a place
+  pub placed : (e : List ℕ) → Placed l (said l e)
+  placed e = (
+    kept-twice (l .flags1) (h .keeps1) (getD e 1 0),
+    kept-twice (l .flags2) (h .keeps2) (getD e 2 0),
+    kept-twice (l .flags3) (h .keeps3) (getD e 3 0),
+    kept-twice (l .speed) (h .speeds) (getD e 3 0),
+  )
+
+  -- four bytes with no bit but the named ones are stored again as they were
+  pub again : (a b c d : ℕ) → a < 256 → d < 256 → only (6 ∷ 5 ∷ 4 ∷ []) a ≡ true → within (l .flags1) b ≡ true → within (l .flags2) c ≡ true
+      → within (bitOr (l .flags3) (l .speed)) d ≡ true → stored l (said l (a ∷ b ∷ c ∷ d ∷ [])) ≡ a ∷ b ∷ c ∷ d ∷ []
+  again a b c d ha hd x y z w =
+      let e : bitOr (bitAnd (bitAnd d (l .flags3)) (l .flags3)) (bitAnd (bitAnd d (l .speed)) (l .speed)) ≡ bitOr (bitAnd d (l .flags3)) (bitAnd d (l .speed))
+      = λ i. bitOr (kept-twice (l .flags3) (h .keeps3) d i) (kept-twice (l .speed) (h .speeds) d i) in
+      four (first-again a ha x) (kept-twice (l .flags1) (h .keeps1) b ∙ eqb-true _ _ y) (kept-twice (l .flags2) (h .keeps2) c ∙ eqb-true _ _ z)
+      (e ∙ split-again (l .flags3) (l .speed) (h .whole) d hd w)
+
+  -- stored bytes have no bit but the named ones
+  module _ (s : Settings) where
+    pub first-clear : only (6 ∷ 5 ∷ 4 ∷ []) (getD (stored l s) 0 0) ≡ true
+    first-clear = first-only (s .prdfail) (s .disabled) (s .swap)
+
+    pub second-clear : within (l .flags1) (getD (stored l s) 1 0) ≡ true
+    second-clear = kept-within (l .flags1) (h .keeps1) (s .flags1)
+
+    pub third-clear : within (l .flags2) (getD (stored l s) 2 0) ≡ true
+    third-clear = kept-within (l .flags2) (h .keeps2) (s .flags2)
+
+    pub fourth-clear : within (bitOr (l .flags3) (l .speed)) (getD (stored l s) 3 0) ≡ true
+    fourth-clear =
+        mix-within (l .flags3) (l .speed) (h .keeps3) (h .speeds) (h .three) (h .apart) _ _
+        (kept-twice (l .flags3) (h .keeps3) (s .flags3))
+        (kept-twice (l .speed) (h .speeds) (s .speed))
+
+speed-placed : (m a b : ℕ) → bitAnd a m ≡ a → bitAnd b m ≡ b → bitAnd (speedAfter a b) m ≡ speedAfter a b
+speed-placed m a b p q = go (eqb a 0)
   where
-    go : (t : Bool) → pick t b a < 8
-    go true = l
-    go false = h
-
-speed-none : (a b : ℕ) → a ≡ 0 → b ≡ 0 → speedAfter a b ≡ 0
-speed-none a b p q = rw (p, q)
+    go : (t : Bool) → bitAnd (pick t b a) m ≡ pick t b a
+    go true = q
+    go false = p
 
 speed-kept : (a b : ℕ) → eqb b 0 ≡ false → eqb (speedAfter a b) 0 ≡ false
 speed-kept a b h = go (eqb a 0) refl
@@ -98,151 +116,45 @@ speed-kept a b h = go (eqb a 0) refl
     go true e = h
     go false e = e
 
--- the bytes that flags and a speed make have no other bit
-first-only : (a b c : Bool) → only (6 ∷ 5 ∷ 4 ∷ []) (join (nibble false a b c) 0) ≡ true
-first-only a b c =
-    let h = flags-high false a b c 0 in
-    let l = join-low (nibble false a b c) 0 in rw (h .0, l .0, l .1, l .2, l .3)
-
-pub ident-fail-only : (i f : Bool) → only (7 ∷ 6 ∷ []) (join (nibble i f false false) 0) ≡ true
-ident-fail-only i f =
-    let h = flags-high i f false false 0 in
-    let l = join-low (nibble i f false false) 0 in rw (h .2, h .3, l .0, l .1, l .2, l .3)
-
-ident-only : (i : Bool) → only (7 ∷ []) (join (nibble i false false false) 0) ≡ true
-ident-only true = refl
-ident-only false = refl
-
-speed-only : (f o : Bool) (n : ℕ) → only (6 ∷ 5 ∷ 2 ∷ 1 ∷ 0 ∷ []) (join (nibble false f o false) (n % 8)) ≡ true
-speed-only f o n =
-    let h = flags-high false f o false (n % 8) in
-    let l = join-low (nibble false f o false) (n % 8) in rw (h .0, h .3, l .0, low-three n)
-
--- a fan that may run is not stopped
-fan-moves : (r : Settings) (e : List ℕ) → r .speed < 8 → fan .speed e ≡ true → fan .speed (fanBytes (acted (asking r) (fanSettings e))) ≡ true
-fan-moves r e h t =
-    let s = fanSettings e in
-    let x = acted (asking r) s in
-    let l : x .speed < 8 = speed-small (r .speed) (s .speed) h (omega arith) in
-    let n : join (nibble false (x .fail) (x .on) false) (x .speed % 8) % 8 ≡ x .speed = join-three _ (x .speed) ∙ omega arith in
-    rw (n, speed-kept (r .speed) (s .speed) (not-true (eqb (getD e 3 0 % 8) 0) t))
-
--- what a layout keeps to, over the settings S that it has a place for
-module _ (l : Layout) (S : Settings → Type 0) where
-  pub record Sound : Type 0 where
-    -- stored settings are read back, and what is read can be stored
-    pub back : (s : Settings) → S s → l .says (l .stores s) ≡ s
-    pub storable : (e : List ℕ) → S (l .says e)
-    -- four bytes with no bit but the named ones are stored again as they were
-    pub again : (a b c d : ℕ) → a < 256 → b < 256 → d < 256 → only (6 ∷ 5 ∷ 4 ∷ []) a ≡ true → l .second b ≡ true → eqb c 0 ≡ true → l .fourth d ≡ true
-        → l .stores (l .says (a ∷ b ∷ c ∷ d ∷ [])) ≡ a ∷ b ∷ c ∷ d ∷ []
-    -- stored bytes are four, with no bit but the named ones
-    pub size : (s : Settings) → length (l .stores s) ≡ 4
-    pub first : (s : Settings) → only (6 ∷ 5 ∷ 4 ∷ []) (getD (l .stores s) 0 0) ≡ true
-    pub second : (s : Settings) → l .second (getD (l .stores s) 1 0) ≡ true
-    pub third : (s : Settings) → eqb (getD (l .stores s) 2 0) 0 ≡ true
-    pub fourth : (s : Settings) → l .fourth (getD (l .stores s) 3 0) ≡ true
-    -- what a control element makes of settings can be stored, with a speed that the type may have
-    pub acts : (r s : Settings) → S r → S s → S (acted (asking r) s)
-    pub moves : (r : Settings) (e : List ℕ) → S r → l .speed e ≡ true → l .speed (l .stores (acted (asking r) (l .says e))) ≡ true
-
-fan-sound : Sound fan (λ s. s .speed < 8)
-fan-sound = record {
-  back = λ s h. fan-back s 0 0 0 false h;
-  storable = λ e. omega arith;
-  again = fan-again;
-  size = λ s. refl;
-  first = λ s. first-only (s .prdfail) (s .disabled) (s .swap);
-  second = λ s. ident-only (s .ident);
-  third = λ s. refl;
-  fourth = λ s. speed-only (s .fail) (s .on) (s .speed);
-  acts = λ r s. speed-small (r .speed) (s .speed);
-  moves = fan-moves;
-}
-
-sensor-sound : Sound sensor Fanless
-sensor-sound = record {
-  back = λ s h. sensor-back s 0 0 (0 ∷ 0 ∷ []) h;
-  storable = λ e. (refl, refl);
-  again = sensor-again;
-  size = λ s. refl;
-  first = λ s. first-only (s .prdfail) (s .disabled) (s .swap);
-  second = λ s. ident-fail-only (s .ident) (s .fail);
-  third = λ s. refl;
-  fourth = λ s. refl;
-  acts = λ r s h l. (h .0, speed-none (r .speed) (s .speed) (h .1) (l .1));
-  moves = λ r e h t. refl;
-}
-
-sound : (k : Kind) → Sound (layoutOf k) (Storable k)
-sound Cooling = fan-sound
-sound Temperature = sensor-sound
-sound Voltage = sensor-sound
-sound Current = sensor-sound
-
--- the same of a type
-module _ (k : Kind) where
-  pub settings-back : (s : Settings) → Storable k s → settingsOf k (settingsBytes k s) ≡ s
-  unfolding settingsOf settingsBytes
-  settings-back = sound k .back
-
-  pub settings-storable : (e : List ℕ) → Storable k (settingsOf k e)
-  unfolding settingsOf
-  settings-storable = sound k .storable
-
-  pub kind-again : (a b c d : ℕ) → a < 256 → b < 256 → d < 256 → only (6 ∷ 5 ∷ 4 ∷ []) a ≡ true → secondNamed k b ≡ true → eqb c 0 ≡ true → fourthNamed k d ≡ true
-      → settingsBytes k (settingsOf k (a ∷ b ∷ c ∷ d ∷ [])) ≡ a ∷ b ∷ c ∷ d ∷ []
-  unfolding settingsBytes settingsOf secondNamed fourthNamed
-  kind-again = sound k .again
-
-  pub length-bytes : (s : Settings) → length (settingsBytes k s) ≡ 4
-  unfolding settingsBytes
-  length-bytes = sound k .size
-
-  pub first-clear : (s : Settings) → only (6 ∷ 5 ∷ 4 ∷ []) (getD (settingsBytes k s) 0 0) ≡ true
-  unfolding settingsBytes
-  first-clear = sound k .first
-
-  pub second-named : (s : Settings) → secondNamed k (getD (settingsBytes k s) 1 0) ≡ true
-  unfolding settingsBytes secondNamed
-  second-named = sound k .second
-
-  pub third-none : (s : Settings) → eqb (getD (settingsBytes k s) 2 0) 0 ≡ true
-  unfolding settingsBytes
-  third-none = sound k .third
-
-  pub fourth-named : (s : Settings) → fourthNamed k (getD (settingsBytes k s) 3 0) ≡ true
-  unfolding settingsBytes fourthNamed
-  fourth-named = sound k .fourth
-
-  pub asked-storable : (r s : Settings) → Storable k r → Storable k s → Storable k (acted (asking r) s)
-  asked-storable = sound k .acts
-
-  acted-speed : (r : Settings) (e : List ℕ) → Storable k r → speedFormed k e ≡ true → speedFormed k (settingsBytes k (acted (asking r) (settingsOf k e))) ≡ true
-  unfolding settingsBytes settingsOf speedFormed
-  acted-speed = sound k .moves
+-- what a request makes of settings has a place
+pub acted-placed : (l : Layout) (r s : Settings) → Placed l r → Placed l s → Placed l (acted r s)
+acted-placed l r s p q = (p .0, p .1, p .2, speed-placed (l .speed) (r .speed) (s .speed) (p .3) (q .3))
 
 -- what settings that a type may have are tested for
-module _ (k : Kind) (e : List ℕ) (t : settingsFormed k e ≡ true) where
-  pub in-settings : (only (6 ∷ 5 ∷ 4 ∷ []) (getD e 0 0) ≡ true)
-      × (secondNamed k (getD e 1 0) ≡ true)
-      × (eqb (getD e 2 0) 0 ≡ true)
-      × (fourthNamed k (getD e 3 0) ≡ true)
-      × (speedFormed k e ≡ true)
-  unfolding settingsFormed
-  in-settings = and-five (only (6 ∷ 5 ∷ 4 ∷ []) (getD e 0 0)) (secondNamed k (getD e 1 0)) (eqb (getD e 2 0) 0) (fourthNamed k (getD e 3 0)) (speedFormed k e) t
+module _ (l : Layout) (e : List ℕ) (t : formed l e ≡ true) where
+  pub in-formed : (only (6 ∷ 5 ∷ 4 ∷ []) (getD e 0 0) ≡ true)
+      × (within (l .flags1) (getD e 1 0) ≡ true)
+      × (within (l .flags2) (getD e 2 0) ≡ true)
+      × (within (bitOr (l .flags3) (l .speed)) (getD e 3 0) ≡ true)
+      × (eqb (l .speed) 0 || not (eqb (bitAnd (getD e 3 0) (l .speed)) 0) ≡ true)
+  in-formed =
+      and-five (only (6 ∷ 5 ∷ 4 ∷ []) (getD e 0 0)) (within (l .flags1) (getD e 1 0)) (within (l .flags2) (getD e 2 0))
+      (within (bitOr (l .flags3) (l .speed)) (getD e 3 0))
+      (eqb (l .speed) 0 || not (eqb (bitAnd (getD e 3 0) (l .speed)) 0))
+      t
 
--- four bytes that are settings of the type are those that store what they say
-pub settings-again : (k : Kind) (a b c d : ℕ) → a < 256 → b < 256 → c < 256 → d < 256 → settingsFormed k (a ∷ b ∷ c ∷ d ∷ []) ≡ true
-    → settingsBytes k (settingsOf k (a ∷ b ∷ c ∷ d ∷ [])) ≡ a ∷ b ∷ c ∷ d ∷ []
-settings-again k a b c d ha hb hc hd t =
-    let h = in-settings k (a ∷ b ∷ c ∷ d ∷ []) t in kind-again k a b c d ha hb hd (h .0) (h .1) (h .2) (h .3)
+-- and a fan that may run is not stopped
+module _ (l : Layout) (h : Sound l) (r : Settings) (e : List ℕ) (p : Placed l r) where
+  abbrev after : Settings
+  after = acted r (said l e)
 
--- what a selected control element makes of settings that a type may have are again such
-pub acted-formed : (k : Kind) (r : Settings) (e : List ℕ) → Storable k r → settingsFormed k e ≡ true
-    → settingsFormed k (settingsBytes k (acted (asking r) (settingsOf k e))) ≡ true
-unfolding settingsFormed
-acted-formed k r e h t =
-    let s = acted (asking r) (settingsOf k e) in
-    and-both (and-both (and-both (and-both (first-clear k s) (second-named k s)) (third-none k s)) (fourth-named k s))
-    (acted-speed k r e h (in-settings k e t .4))
+  runs-on : eqb (l .speed) 0 || not (eqb (bitAnd (getD e 3 0) (l .speed)) 0) ≡ true
+      → eqb (l .speed) 0 || not (eqb (bitAnd (getD (stored l after) 3 0) (l .speed)) 0) ≡ true
+  runs-on t = go (eqb (l .speed) 0) t
+    where
+      speed : bitAnd (getD (stored l after) 3 0) (l .speed) ≡ speedAfter (r .speed) (bitAnd (getD e 3 0) (l .speed))
+      speed = ap (λ (s : Settings). s .speed) (back l h after (acted-placed l r (said l e) p (placed l h e)))
+
+      moves : not (eqb (bitAnd (getD e 3 0) (l .speed)) 0) ≡ true → not (eqb (bitAnd (getD (stored l after) 3 0) (l .speed)) 0) ≡ true
+      moves m = rw (speed, speed-kept (r .speed) (bitAnd (getD e 3 0) (l .speed)) (not-true _ m))
+
+      go : (b : Bool) → b || not (eqb (bitAnd (getD e 3 0) (l .speed)) 0) ≡ true → b || not (eqb (bitAnd (getD (stored l after) 3 0) (l .speed)) 0) ≡ true
+      go true m = refl
+      go false m = moves m
+
+  -- what a request makes of settings that a type may have are again such
+  pub acted-formed : formed l e ≡ true → formed l (stored l after) ≡ true
+  acted-formed t =
+      and-both
+      (and-both (and-both (and-both (first-clear l h after) (second-clear l h after)) (third-clear l h after)) (fourth-clear l h after))
+      (runs-on (in-formed l e t .4))

@@ -1,28 +1,54 @@
--- The element types that are served, and what the readings and nominals of each may be. Assumes nothing.
-use mathlib.Core.Bool.{Bool, true, _&&_, _||_}
+-- The element types that are served, and what each may have. Assumes nothing.
+use mathlib.Core.Bool.{Bool}
+use mathlib.Core.List.{List}
 use Prim.Native.Nat.{ℕ}
-use lib.Dec.{eqb, leb}
+use lib.Dec.{eqb}
 use Rattle.bits.specs.Choice.{pick}
 use Rattle.element.specs.declared.types.Kind.{Kind}
 use Rattle.element.specs.declared.types.Kind.the-variants.{Cooling, Temperature, Voltage, Current}
+use Rattle.element.specs.declared.layout.Layout.{Layout}
+use Rattle.element.specs.declared.settings.Settings.{Settings}
+use Rattle.element.specs.declared.verdict.Verdict.{Verdict}
+use Rattle.element.specs.Rules.{Rules}
+use Rattle.element.specs.Cooling.{cooling}
+use Rattle.element.specs.Temperature.{temperature}
+use Rattle.element.specs.Voltage.{voltage}
+use Rattle.element.specs.Current.{current}
 
-abbrev pub served : ℕ → Bool
-served code = ((eqb code 0x03 || eqb code 0x04) || eqb code 0x12) || eqb code 0x13
+abbrev pub rulesOf : Kind → Rules
+rulesOf Cooling = cooling
+rulesOf Temperature = temperature
+rulesOf Voltage = voltage
+rulesOf Current = current
+
+abbrev pub codeOf : Kind → ℕ
+codeOf k = rulesOf k .code
 
 -- the type that a served code names; any other code, which no well-formed shelf has, reads as Current
 unfoldable pub kindOf : ℕ → Kind
-kindOf code = pick (eqb code 0x03) Cooling (pick (eqb code 0x04) Temperature (pick (eqb code 0x12) Voltage Current))
+kindOf code =
+    pick (eqb code (codeOf Cooling)) Cooling
+    (pick (eqb code (codeOf Temperature)) Temperature (pick (eqb code (codeOf Voltage)) Voltage Current))
 
--- a fan's speed 0 to 2,047; a temperature byte; a voltage or current of 16 bits
+-- a code is served if it is that of the type which it names
+unfoldable pub served : ℕ → Bool
+served code = eqb (codeOf (kindOf code)) code
+
+unfoldable pub layoutOf : Kind → Layout
+layoutOf k = rulesOf k .layout
+
 unfoldable pub readingAllowed : Kind → ℕ → Bool
-readingAllowed Cooling r = leb r 2047
-readingAllowed Temperature r = leb r 255
-readingAllowed Voltage r = true
-readingAllowed Current r = true
+readingAllowed k r = rulesOf k .reading r
 
--- 1 to 32,767 where the type has a nominal, else 0
 unfoldable pub nominalAllowed : Kind → ℕ → Bool
-nominalAllowed Cooling n = eqb n 0
-nominalAllowed Temperature n = eqb n 0
-nominalAllowed Voltage n = leb 1 n && leb n 32767
-nominalAllowed Current n = leb 1 n && leb n 32767
+nominalAllowed k n = rulesOf k .nominal n
+
+-- no threshold byte is set that the type doesn't have
+unfoldable pub had : Kind → List ℕ → Bool
+had k t = rulesOf k .had t
+
+unfoldable pub ordered : Kind → List ℕ → Bool
+ordered k t = rulesOf k .ordered t
+
+unfoldable pub verdictOf : Kind → Settings → ℕ → ℕ → List ℕ → Verdict
+verdictOf k s r n t = rulesOf k .verdict s r n t

@@ -1,33 +1,29 @@
 // A control element: what it asks, which of two acts, and what it makes of settings.
-use crate::settings;
+use crate::layout::Layout;
 use crate::settings::Settings;
 use crate::types::Kind;
 ghost use mathlib.Core.Path.{_≡_};
-ghost use Rattle.element.specs.declared.types.Kind.the-variants.{Cooling, Temperature};
 ghost use Rattle.element.specs.Control.{selected, controlOf, reservedIn, offending, speedAfter, acted};
 
+// SELECT, and the settings that are requested, RST SWAP in the place of SWAP.
 pub struct Control {
     pub select: bool,
-    pub prdfail: bool,
-    pub disable: bool,
-    pub rstswap: bool,
-    pub ident: bool,
-    pub fail: bool,
-    pub on: bool,
-    pub speed: u8,
+    pub request: Settings,
 }
 
 impl Control {
     // The element of four zeros; an element without SELECT asks no more, whatever its other bits.
     pub const UNSELECTED: Control = Control {
         select: false,
-        prdfail: false,
-        disable: false,
-        rstswap: false,
-        ident: false,
-        fail: false,
-        on: false,
-        speed: 0,
+        request: Settings {
+            prdfail: false,
+            disabled: false,
+            swap: false,
+            flags1: 0,
+            flags2: 0,
+            flags3: 0,
+            speed: 0,
+        },
     };
 
     pub fn is_selected(e: [u8; 4]) -> bool
@@ -40,16 +36,10 @@ impl Control {
         ensures { λ r. ⌜ r ≡ controlOf kind e ⌝ }
     {
         if Control::is_selected(e) {
-            let s = Settings::of(kind, e);
+            let request = Settings::of(kind, e);
             Control {
                 select: true,
-                prdfail: s.prdfail,
-                disable: s.disabled,
-                rstswap: s.swap,
-                ident: s.ident,
-                fail: s.fail,
-                on: s.on,
-                speed: s.speed,
+                request,
             }
         } else {
             Control::UNSELECTED
@@ -69,16 +59,17 @@ impl Control {
 
     // What a selected element makes of settings.
     pub fn act(self, s: Settings) -> Settings
-        ensures { λ r. ⌜ r ≡ acted self s ⌝ }
+        ensures { λ r. ⌜ r ≡ acted (self .request) s ⌝ }
     {
-        let speed = speed_after(self.speed, s.speed);
+        let request = self.request;
+        let speed = speed_after(request.speed, s.speed);
         Settings {
-            prdfail: self.prdfail,
-            disabled: self.disable,
-            swap: s.swap & !self.rstswap,
-            ident: self.ident,
-            fail: self.fail,
-            on: self.on,
+            prdfail: request.prdfail,
+            disabled: request.disabled,
+            swap: s.swap & !request.swap,
+            flags1: request.flags1,
+            flags2: request.flags2,
+            flags3: request.flags3,
             speed,
         }
     }
@@ -88,31 +79,12 @@ impl Control {
 fn reserved(kind: Kind, e: [u8; 4]) -> u8
     ensures { λ r. ⌜ r ≡ reservedIn kind e ⌝ }
 {
-    match kind {
-        Kind::Cooling => fan_reserved(e),
-        Kind::Temperature | Kind::Voltage | Kind::Current => sensor_reserved(e),
-    }
-}
-
-fn fan_reserved(e: [u8; 4]) -> u8
-    ensures { λ r. ⌜ r ≡ reservedIn Cooling e ⌝ }
-{
+    let layout = Layout::of(kind);
     bits::first_of(
-        e[0] & 0x0f == 0,
-        e[1] & settings::FAN_SECOND == 0,
-        e[2] == 0,
-        e[3] & settings::FAN_FOURTH == 0,
-    )
-}
-
-fn sensor_reserved(e: [u8; 4]) -> u8
-    ensures { λ r. ⌜ r ≡ reservedIn Temperature e ⌝ }
-{
-    bits::first_of(
-        e[0] & 0x0f == 0,
-        e[1] & settings::SENSOR_SECOND == 0,
-        e[2] == 0,
-        e[3] == 0,
+        e[0] & 0xf0 == e[0],
+        e[1] & layout.flags1 == e[1],
+        e[2] & layout.flags2 == e[2],
+        e[3] & (layout.flags3 | layout.speed) == e[3],
     )
 }
 

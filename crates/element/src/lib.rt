@@ -2,5 +2,7 @@
 //
 // Every function takes any value and asks nothing of its caller.
 pub mod control;
+pub mod layout;
 pub mod settings;
 pub mod types;
+pub mod verdict;

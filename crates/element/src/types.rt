@@ -1,6 +1,6 @@
 // The element types that are served, and what their readings and nominals may be.
 ghost use mathlib.Core.Path.{_≡_};
-ghost use Rattle.element.specs.Types.{kindOf, served, readingAllowed, nominalAllowed};
+ghost use Rattle.element.specs.Types.{codeOf, kindOf, served, readingAllowed, nominalAllowed};
 
 pub enum Kind {
     Cooling,
@@ -9,23 +9,45 @@ pub enum Kind {
     Current,
 }
 
+const COOLING: u8 = 0x03;
+
+const TEMPERATURE: u8 = 0x04;
+
+const VOLTAGE: u8 = 0x12;
+
+const CURRENT: u8 = 0x13;
+
 impl Kind {
+    pub fn code(self) -> u8
+        ensures { λ r. ⌜ r ≡ codeOf self ⌝ }
+    {
+        match self {
+            Kind::Cooling => COOLING,
+            Kind::Temperature => TEMPERATURE,
+            Kind::Voltage => VOLTAGE,
+            Kind::Current => CURRENT,
+        }
+    }
+
     // The type that a served code names; any other code reads as Current.
     pub fn of(code: u8) -> Kind
         ensures { λ r. ⌜ r ≡ kindOf code ⌝ }
     {
-        match code {
-            0x03 => Kind::Cooling,
-            0x04 => Kind::Temperature,
-            0x12 => Kind::Voltage,
-            _ => Kind::Current,
+        if code == COOLING {
+            Kind::Cooling
+        } else if code == TEMPERATURE {
+            Kind::Temperature
+        } else if code == VOLTAGE {
+            Kind::Voltage
+        } else {
+            Kind::Current
         }
     }
 
     pub fn is_served(code: u8) -> bool
         ensures { λ r. ⌜ r ≡ served code ⌝ }
     {
-        (code == 0x03) | (code == 0x04) | (code == 0x12) | (code == 0x13)
+        Kind::of(code).code() == code
     }
 
     pub fn may_read(self, reading: u16) -> bool

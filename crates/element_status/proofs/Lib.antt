@@ -1,1 +1,1 @@
-pub mod StatusBothWays
+pub mod ByteLaws

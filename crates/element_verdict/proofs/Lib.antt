@@ -1,2 +1,1 @@
 pub mod SignedLimits
-pub mod ThresholdsTaken

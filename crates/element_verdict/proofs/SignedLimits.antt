@@ -11,7 +11,7 @@ use lib.Signed.{ltZ}
 use mir.Val.{Fits, sel}
 use mir.Syntax.{w8, w16}
 use borrow.Author.Tests.{ltb-true, ltb-false, lt-ltb, le-ltb}
-use Rattle.element_verdict.specs.Verdict.{signed}
+use Rattle.element.specs.Verdict.{signed}
 
 -- a nominal times a limit is bounded
 pub scaled : (n l : ℕ) → Fits w16 n → Fits w8 l → n * l ≤ n * 256

@@ -1,7 +1,8 @@
 // The four threshold bytes of an element: high critical, high warning, low warning, low critical.
 use element::types::Kind;
 ghost use mathlib.Core.Path.{_≡_};
-ghost use Rattle.element_verdict.specs.Thresholds.{byteTaken, taken, had, atLeast, ordered};
+ghost use Rattle.element.specs.Thresholds.{byteTaken, taken, atLeast};
+ghost use Rattle.element.specs.Types.{had, ordered};
 
 fn byte_taken(own: u8, overall: u8, stored: u8) -> u8
     ensures { λ r. ⌜ r ≡ byteTaken own overall stored ⌝ }

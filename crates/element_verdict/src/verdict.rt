@@ -1,28 +1,21 @@
 // What follows from a reading: the status code and the four limit bits.
+use element::settings::Settings;
 use element::types::Kind;
+use element::verdict::Verdict;
 ghost use mathlib.Core.Path.{_≡_};
 ghost use Prim.Native.Nat.{_+_, _%_};
-ghost use Rattle.element_verdict.specs.Verdict.{codeFor, unlimited, judged, above, below, over, under, fanVerdict, temperatureVerdict, voltageVerdict, currentVerdict, verdictOf};
+ghost use Rattle.element.specs.Verdict.{codeFor, unlimited, judged, above, below, over, under, fanVerdict, temperatureVerdict, voltageVerdict, currentVerdict};
+ghost use Rattle.element.specs.Cooling.{isOn};
+ghost use Rattle.element.specs.Types.{verdictOf};
 
-// The limit bits stand in the order of the thresholds.
-pub struct Verdict {
-    pub code: u8,
-    pub highcrit: bool,
-    pub highwarn: bool,
-    pub lowwarn: bool,
-    pub lowcrit: bool,
-}
-
-impl Verdict {
-    pub fn of(kind: Kind, on: bool, reading: u16, nominal: u16, t: [u8; 4]) -> Verdict
-        ensures { λ r. ⌜ r ≡ verdictOf kind on reading nominal t ⌝ }
-    {
-        match kind {
-            Kind::Cooling => of_fan(on, reading),
-            Kind::Temperature => of_temperature(reading, t),
-            Kind::Voltage => of_voltage(reading, nominal, t),
-            Kind::Current => of_current(reading, nominal, t),
-        }
+pub fn of(kind: Kind, set: Settings, reading: u16, nominal: u16, t: [u8; 4]) -> Verdict
+    ensures { λ r. ⌜ r ≡ verdictOf kind set reading nominal t ⌝ }
+{
+    match kind {
+        Kind::Cooling => of_fan(set, reading),
+        Kind::Temperature => of_temperature(reading, t),
+        Kind::Voltage => of_voltage(reading, nominal, t),
+        Kind::Current => of_current(reading, nominal, t),
     }
 }
 
@@ -97,9 +90,11 @@ fn under(reading: u16, nominal: u16, limit: u8) -> bool
     (limit != 0) & (n * limit as u32 + 200 * lifted(reading) < 200 * (n + 32768))
 }
 
-fn of_fan(on: bool, reading: u16) -> Verdict
-    ensures { λ r. ⌜ r ≡ fanVerdict on reading ⌝ }
+// Byte 3 bit 5 is ON.
+fn of_fan(set: Settings, reading: u16) -> Verdict
+    ensures { λ r. ⌜ r ≡ fanVerdict (isOn set) reading ⌝ }
 {
+    let on = set.flags3 >> 5 & 1 == 1;
     unlimited(code_for(on & (reading == 0), false))
 }
 

@@ -11,12 +11,11 @@ use Rattle.bits.specs.Numbers.{Bytes}
 use Rattle.bits.specs.Choice.{firstOf, allBelow}
 use Rattle.bits.specs.Bits.{num}
 use Rattle.bits.proofs.Logic.{and-left, and-right}
-use Rattle.element.specs.Types.{kindOf, readingAllowed, nominalAllowed}
-use Rattle.element.specs.Settings.{settingsOf, settingsBytes, secondNamed, fourthNamed, speedFormed, settingsFormed}
-use Rattle.element.specs.Control.{controlOf, offending, chosen, settled}
-use Rattle.element_verdict.specs.Thresholds.{had, ordered}
-use Rattle.element_verdict.specs.Verdict.{over, under, verdictOf}
-use Rattle.element_status.specs.Status.{isOff, shownBy, statusBytes}
+use Rattle.element.specs.Types.{kindOf, served, layoutOf, readingAllowed, nominalAllowed, had, ordered, verdictOf}
+use Rattle.element.specs.Settings.{settingsOf, settingsBytes, settingsFormed}
+use Rattle.element.specs.Control.{controlOf, reservedIn, offending, chosen, settled}
+use Rattle.element.specs.Verdict.{over, under}
+use Rattle.element.specs.Status.{entryBy, shownBy, statusBytes}
 use Rattle.shelf.specs.Types.{before, elementsOf, typeOf, kindAt}
 use Rattle.shelf.specs.Elements.{settingsAt, thresholdsAt, readingAt, nominalAt, spareAt}
 use Rattle.shelf_formed.specs.Formed.{headFormed, textFormed, typeFormed, typeEmpty, slotFormed, typesFormed, spareClear, elementFormed, elementsFormed, frontFormed, wellFormed}
@@ -35,7 +34,7 @@ use Rattle.build_element.specs.Parts.{cost, tried, better, overallFor}
 use Rattle.build_page.specs.Promise.{wishTested}
 use Rattle.build_page.specs.Page.{overallIn, rowUnder, rowFor, selectsFor, controlPage, reachable}
 use Rattle.build_page.proofs.PromiseKept.{none-reaches, page-promised}
-use Rattle.paper.specs.Table.{Case, shows, judges, tells, builds, misses, limits, Holds, AllHold, table}
+use Rattle.paper.specs.Table.{Case, shows, judges, tells, builds, misses, limits, none, Holds, AllHold, table}
 
 -- a test that each number is a byte
 abbrev allBytes : List ℕ → Bool
@@ -49,7 +48,7 @@ are-bytes (b ∷ bs) t = (ltb-true b 256 (and-left _ _ t), are-bytes bs (and-rig
 -- what antt computes of a case
 given : Case → List ℕ
 given (shows k s r n t b) = statusBytes k (shownBy k (settingsOf k s) r n t)
-given (judges k r n t v) = limits (verdictOf k false r n t)
+given (judges k r n t v) = limits (verdictOf k (settingsOf k none) r n t)
 given (tells s p) = num (wellFormed s) ∷ statusPage s
 given (builds s w p n) = num (accepts (wishTested s w)) ∷ num (allBytes s) ∷ num (allBytes w) ∷ num (allBelow (reachable s w) (elementsOf s)) ∷ selectsFor s w (slotsOf s) ∷ controlPage s w
 given (misses s w) = num (accepts (wishTested s w)) ∷ num (allBelow (reachable s w) (elementsOf s)) ∷ []
@@ -106,5 +105,5 @@ all-hold [] e = tt
 all-hold (c ∷ cs) e = (holds c (let h : given c ≡ told c = cc in h), all-hold cs (let h : map given cs ≡ map told cs = cc in h))
 
 pub proved : AllHold table
-unfolding settingsOf settingsBytes controlOf offending chosen settled over under verdictOf isOff shownBy statusBytes kindOf readingAllowed nominalAllowed secondNamed fourthNamed speedFormed settingsFormed had ordered before elementsOf typeOf kindAt settingsAt thresholdsAt readingAt nominalAt spareAt headFormed textFormed typeFormed typeEmpty slotFormed typesFormed spareClear elementFormed elementsFormed frontFormed wellFormed slotsOf startOf slotType isOverall slotAt header shownAt codeAt worst shownIn pageBits slotBytes pageWith statusPage firstOf lengthSaid headed pageTested placesOf slotOffending offence controlTested valid settingsAfter broughtTo inReach alike requestBytes own brings one cost tried better overallFor wishTested overallIn rowUnder rowFor controlPage reachable given told
+unfolding settingsOf settingsBytes controlOf reservedIn offending chosen settled over under verdictOf entryBy shownBy statusBytes kindOf served layoutOf readingAllowed nominalAllowed settingsFormed had ordered before elementsOf typeOf kindAt settingsAt thresholdsAt readingAt nominalAt spareAt headFormed textFormed typeFormed typeEmpty slotFormed typesFormed spareClear elementFormed elementsFormed frontFormed wellFormed slotsOf startOf slotType isOverall slotAt header shownAt codeAt worst shownIn pageBits slotBytes pageWith statusPage firstOf lengthSaid headed pageTested placesOf slotOffending offence controlTested valid settingsAfter broughtTo inReach alike requestBytes own brings one cost tried better overallFor wishTested overallIn rowUnder rowFor controlPage reachable given told
 proved = all-hold table refl

@@ -7,10 +7,10 @@ use lib.ListN.{replicate}
 use Rattle.bits.specs.Bits.{num}
 use Rattle.element.specs.declared.types.Kind.{Kind}
 use Rattle.element.specs.declared.types.Kind.the-variants.{Cooling, Temperature, Voltage, Current}
-use Rattle.element_verdict.specs.declared.verdict.Verdict.{Verdict}
+use Rattle.element.specs.declared.verdict.Verdict.{Verdict}
 use Rattle.element.specs.Settings.{settingsOf}
-use Rattle.element_verdict.specs.Verdict.{verdictOf}
-use Rattle.element_status.specs.Status.{shownBy, statusBytes}
+use Rattle.element.specs.Types.{verdictOf}
+use Rattle.element.specs.Status.{shownBy, statusBytes}
 use Rattle.shelf_formed.specs.Formed.{wellFormed}
 use Rattle.status_page.specs.Page.{statusPage}
 use Rattle.refusals.specs.declared.Refusal.the-variants.{Unreachable}
@@ -21,7 +21,7 @@ use Rattle.build_page.specs.Promise.{Promised}
 pub data Case : Type 0 where
   -- an element of the type with these settings, reading, nominal and thresholds shows these bytes
   shows : Kind → List ℕ → ℕ → ℕ → List ℕ → List ℕ → Case
-  -- reading, nominal and thresholds of a sensor give this code and these limit bits, in the order of the thresholds
+  -- reading, nominal and thresholds of a sensor without settings give this code and these limit bits, in the order of the thresholds
   judges : Kind → ℕ → ℕ → List ℕ → List ℕ → Case
   -- the shelf is well formed and has this status page
   tells : List ℕ → List ℕ → Case
@@ -33,10 +33,14 @@ pub data Case : Type 0 where
 abbrev pub limits : Verdict → List ℕ
 limits v = v .code ∷ num (v .highcrit) ∷ num (v .highwarn) ∷ num (v .lowwarn) ∷ num (v .lowcrit) ∷ []
 
+-- settings or thresholds of which none is set
+abbrev pub none : List ℕ
+none = 0 ∷ 0 ∷ 0 ∷ 0 ∷ []
+
 -- what the definitions and the builder's promise say of a case
 abbrev pub Holds : Case → Type 0
 Holds (shows k s r n t b) = statusBytes k (shownBy k (settingsOf k s) r n t) ≡ b
-Holds (judges k r n t v) = limits (verdictOf k false r n t) ≡ v
+Holds (judges k r n t v) = limits (verdictOf k (settingsOf k none) r n t) ≡ v
 Holds (tells s p) = (wellFormed s ≡ true) × (statusPage s ≡ p)
 Holds (builds s w p n) = (out : List ℕ) → Promised s w out (builtOf p n out) (leftBy (builtOf p n out) p out)
 Holds (misses s w) = (out : List ℕ) → Promised s w out (Refused Unreachable) out
@@ -54,9 +58,6 @@ highCritical = 2 ∷ 1 ∷ 0 ∷ 0 ∷ 0 ∷ []
 
 abbrev highWarning : List ℕ
 highWarning = 3 ∷ 0 ∷ 1 ∷ 0 ∷ 0 ∷ []
-
-abbrev none : List ℕ
-none = 0 ∷ 0 ∷ 0 ∷ 0 ∷ []
 
 -- high critical h alone, and high warning h alone
 abbrev critical : ℕ → List ℕ

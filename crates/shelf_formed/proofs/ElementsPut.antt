@@ -16,7 +16,7 @@ use Rattle.bits.proofs.FourPut.{Outside}
 use Rattle.bits.proofs.FoursPut.{Apart, four-byte, length-fours, byte-kept, four-kept, front-kept, row-back, rows-same}
 use Rattle.element.specs.Types.{readingAllowed, nominalAllowed}
 use Rattle.element.specs.Settings.{settingsFormed}
-use Rattle.element_verdict.specs.Thresholds.{had, ordered}
+use Rattle.element.specs.Types.{had, ordered}
 use Rattle.shelf.specs.Limits.{elementPlace}
 use Rattle.shelf.specs.Types.{elementsOf, kindAt}
 use Rattle.shelf.specs.Elements.{settingsAt, thresholdsAt, readingAt, nominalAt, spareAt}

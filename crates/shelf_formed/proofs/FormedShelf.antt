@@ -11,7 +11,7 @@ use Rattle.bits.specs.Choice.{allBelow}
 use Rattle.bits.proofs.Logic.{and-left, and-right, and-five, below-at, pick-yes, pick-no}
 use Rattle.element.specs.Types.{served, readingAllowed, nominalAllowed}
 use Rattle.element.specs.Settings.{settingsFormed}
-use Rattle.element_verdict.specs.Thresholds.{had, ordered}
+use Rattle.element.specs.Types.{had, ordered}
 use Rattle.shelf.specs.Limits.{mostTypes, mostElements, mostInType, mostText, typeSize, typePlace, textPlace, elementPlace}
 use Rattle.shelf.specs.Types.{typesOf, typeCode, typeCount, textLength, elementsOf, kindAt}
 use Rattle.shelf.specs.Elements.{settingsAt, thresholdsAt, readingAt, nominalAt}

@@ -15,7 +15,7 @@ use Rattle.shelf.specs.Limits.{mostInType, mostText, typePlace, textPlace, elem
 use Rattle.element.specs.declared.types.Kind.{Kind}
 use Rattle.element.specs.Types.{served, readingAllowed, nominalAllowed}
 use Rattle.element.specs.Settings.{settingsFormed}
-use Rattle.element_verdict.specs.Thresholds.{had, ordered}
+use Rattle.element.specs.Types.{had, ordered}
 use Rattle.shelf.specs.Types.{typeCode, typeCount, textLength, kindAt}
 use Rattle.shelf.specs.Elements.{settingsAt, thresholdsAt, readingAt, nominalAt, spareAt}
 use Rattle.shelf_formed.specs.Formed.{textByteFormed, textFormed, typeFormed, zeros, spareClear, fieldsFormed, elementFormed}

@@ -9,7 +9,7 @@ use Rattle.bits.specs.Choice.{pick, allBelow}
 use Rattle.element.specs.declared.types.Kind.{Kind}
 use Rattle.element.specs.Types.{served, readingAllowed, nominalAllowed}
 use Rattle.element.specs.Settings.{settingsFormed}
-use Rattle.element_verdict.specs.Thresholds.{had, ordered}
+use Rattle.element.specs.Types.{had, ordered}
 use Rattle.shelf_formed.specs.declared.Opened.{Opened}
 use Rattle.shelf_formed.specs.declared.Opened.the-variants.{Shelf, NotWellFormed}
 use Rattle.shelf.specs.Limits.{mostTypes, mostElements, mostInType, mostText, typeSize, typePlace, textPlace, elementPlace, HasTypes}
@@ -62,15 +62,9 @@ spareClear s j = zeros (spareAt s j)
 abbrev pub fieldsFormed : Kind → List ℕ → List ℕ → ℕ → ℕ → Bool
 fieldsFormed k e t r n = (((settingsFormed k e && had k t) && ordered k t) && readingAllowed k r) && nominalAllowed k n
 
--- settings, thresholds, reading and nominal that the element's type may have
+-- what is stored of element j is what its type may have, and its spare bytes are zero
 unfoldable pub elementFormed : List ℕ → ℕ → Bool
-elementFormed s j =
-    ((((settingsFormed (kindAt s j) (settingsAt s j)
-    && had (kindAt s j) (thresholdsAt s j))
-    && ordered (kindAt s j) (thresholdsAt s j))
-    && readingAllowed (kindAt s j) (readingAt s j))
-    && nominalAllowed (kindAt s j) (nominalAt s j))
-    && spareClear s j
+elementFormed s j = fieldsFormed (kindAt s j) (settingsAt s j) (thresholdsAt s j) (readingAt s j) (nominalAt s j) && spareClear s j
 
 unfoldable pub elementsFormed : List ℕ → ℕ → Bool
 elementsFormed s n = allBelow (elementFormed s) n

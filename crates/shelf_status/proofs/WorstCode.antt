@@ -8,12 +8,8 @@ use native.Mathlib.Omega.{arith}
 use lib.Dec.{eqb}
 use Rattle.bits.specs.Choice.{pick}
 use Rattle.element.specs.declared.types.Kind.{Kind}
-use Rattle.element_status.specs.declared.Shown.{Shown}
-use Rattle.element_status.specs.Status.{codeAlone}
-use Rattle.page.specs.declared.slots.Slot.{Slot}
-use Rattle.page.specs.Slots.{slotAt}
 use Rattle.shelf.specs.Types.{kindAt}
-use Rattle.shelf_status.specs.ShelfStatus.{shownAt, codeAt, anyBelow, worstOf, has, worst, worse, shownIn, isCode}
+use Rattle.shelf_status.specs.ShelfStatus.{codeAt, anyBelow, worstOf, has, worst, worse, isCode}
 
 -- one code more, by which of the four were there
 step : (a b c d : Bool) (n : ℕ)
@@ -48,9 +44,3 @@ module _ (s : List ℕ) (k : Kind) (first : ℕ) where
 pub seen-next : (s : List ℕ) (code j : ℕ) {b : Bool} {k : Kind} {n : ℕ} → b ≡ anyBelow (isCode s code) j → k ≡ kindAt s j → n ≡ codeAt s k j
     → b || eqb n code ≡ anyBelow (isCode s code) (j + 1)
 seen-next s code j p q r = rw (add-one, p, r, q)
-
--- what slot i shows, from what the slot is for
-pub shown-is : (s : List ℕ) (i : ℕ) {at : Slot} {x : Shown} → at ≡ slotAt s i
-    → x ≡ pick (at .overall) (codeAlone (worst s (at .kind) (at .first) (at .end))) (shownAt s (at .kind) (at .first)) → x ≡ shownIn s i
-unfolding shownIn
-shown-is s i e h = h ∙ rw e

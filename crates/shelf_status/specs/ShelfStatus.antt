@@ -7,20 +7,20 @@ use Rattle.bits.specs.Choice.{pick}
 use Rattle.bits.specs.Bits.{nibble}
 use Rattle.element.specs.declared.types.Kind.{Kind}
 use Rattle.element.specs.Settings.{settingsOf}
-use Rattle.element_status.specs.declared.Shown.{Shown}
-use Rattle.element_status.specs.Status.{shownBy, codeAlone}
+use Rattle.element.specs.Types.{verdictOf}
+use Rattle.element.specs.Status.{shownBy, codeAlone}
 use Rattle.shelf.specs.Types.{elementsOf, kindAt}
 use Rattle.shelf.specs.Elements.{settingsAt, thresholdsAt, readingAt, nominalAt}
 use Rattle.page.specs.declared.slots.Slot.{Slot}
 use Rattle.page.specs.Slots.{slotAt}
 use Rattle.shelf_status.specs.declared.PageBits.{PageBits}
 
--- element j, of kind k
-unfoldable pub shownAt : List ℕ → Kind → ℕ → Shown
+-- element j, of kind k: the entry that says what it shows, and its code
+unfoldable pub shownAt : List ℕ → Kind → ℕ → List ℕ
 shownAt s k j = shownBy k (settingsOf k (settingsAt s j)) (readingAt s j) (nominalAt s j) (thresholdsAt s j)
 
 unfoldable pub codeAt : List ℕ → Kind → ℕ → ℕ
-codeAt s k j = shownAt s k j .verdict .code
+codeAt s k j = verdictOf k (settingsOf k (settingsAt s j)) (readingAt s j) (nominalAt s j) (thresholdsAt s j) .code
 
 -- the test f passes at some number below n
 abbrev pub anyBelow : (ℕ → Bool) → ℕ → Bool
@@ -44,7 +44,7 @@ abbrev pub worse : ℕ → ℕ → ℕ
 worse a b = worstOf (λ code. eqb a code || eqb b code)
 
 -- slot i of the status page: a type's overall element shows the worst code of its elements
-unfoldable pub shownIn : List ℕ → ℕ → Shown
+unfoldable pub shownIn : List ℕ → ℕ → List ℕ
 shownIn s i =
     let at : Slot = slotAt s i in
     pick (at .overall) (codeAlone (worst s (at .kind) (at .first) (at .end))) (shownAt s (at .kind) (at .first))

@@ -1,20 +1,19 @@
 // What a shelf shows: each element by itself, each type by its worst element, and the page by all.
 use element::settings::Settings;
 use element::types::Kind;
-use element_status::Shown;
-use element_verdict::verdict::Verdict;
-use page::slots::Slot;
+use element::verdict::Verdict;
+use element_verdict::verdict;
 use shelf::elements;
 use shelf::types;
 ghost use mathlib.Core.Path.{_≡_};
 ghost use mathlib.Core.Bool.{true};
 ghost use Prim.Native.Nat.{_≤_};
 ghost use lib.ListN.{length};
-ghost use Rattle.bits.specs.Choice.{pick};
-ghost use Rattle.element_status.specs.Status.{codeAlone};
+ghost use Rattle.element.specs.Types.{verdictOf};
+ghost use Rattle.element.specs.Status.{statusBytes};
 ghost use Rattle.shelf.specs.Limits.{elementPlace, HasElement};
+ghost use Rattle.shelf.specs.Elements.{readingAt, nominalAt, thresholdsAt};
 ghost use Rattle.shelf_formed.specs.Formed.{wellFormed};
-ghost use Rattle.page.specs.Slots.{HasElements};
 ghost use Rattle.shelf_status.specs.ShelfStatus.{shownAt, codeAt, worse, worst, pageBits, bitsByte};
 
 // The two bits of a status page that tell of all its elements.
@@ -56,14 +55,14 @@ impl PageBits {
     }
 }
 
-fn shown_at(shelf: &[u8], kind: Kind, j: u16) -> Shown
+// What follows from what is stored of element j.
+fn verdict_at(shelf: &[u8], kind: Kind, set: Settings, j: u16) -> Verdict
     requires { ⌜ HasElement (now shelf) j ⌝ }
-    ensures { λ r. ⌜ r ≡ shownAt (now (shelf .entry)) kind j ⌝ }
+    ensures { λ r. ⌜ r ≡ verdictOf kind set (readingAt (now (shelf .entry)) j) (nominalAt (now (shelf .entry)) j) (thresholdsAt (now (shelf .entry)) j) ⌝ }
 {
-    let set = Settings::of(kind, elements::settings_at(shelf, j));
     let reading = elements::reading_at(shelf, j);
     let nominal = elements::nominal_at(shelf, j);
-    Shown::by(
+    verdict::of(
         kind,
         set,
         reading,
@@ -72,21 +71,23 @@ fn shown_at(shelf: &[u8], kind: Kind, j: u16) -> Shown
     )
 }
 
+// The status element of element j.
+pub fn status_at(shelf: &[u8], kind: Kind, j: u16) -> [u8; 4]
+    requires { ⌜ HasElement (now shelf) j ⌝ }
+    ensures { λ r. ⌜ r ≡ statusBytes kind (shownAt (now (shelf .entry)) kind j) ⌝ }
+{
+    let set = Settings::of(kind, elements::settings_at(shelf, j));
+    let verdict = verdict_at(shelf, kind, set, j);
+    element_status::status(kind, set, verdict, elements::reading_at(shelf, j))
+}
+
 // Without what else the element shows.
 fn code_at(shelf: &[u8], kind: Kind, j: u16) -> u8
     requires { ⌜ HasElement (now shelf) j ⌝ }
     ensures { λ r. ⌜ r ≡ codeAt (now (shelf .entry)) kind j ⌝ }
 {
     let set = Settings::of(kind, elements::settings_at(shelf, j));
-    let reading = elements::reading_at(shelf, j);
-    let nominal = elements::nominal_at(shelf, j);
-    let verdict = Verdict::of(
-        kind,
-        set.on,
-        reading,
-        nominal,
-        elements::thresholds_at(shelf, j),
-    );
+    let verdict = verdict_at(shelf, kind, set, j);
     verdict.code
 }
 
@@ -107,7 +108,7 @@ fn worse(a: u8, b: u8) -> u8
 }
 
 // The worst code of the elements from `first` up to `end`.
-fn worst(shelf: &[u8], kind: Kind, first: u16, end: u16) -> u8
+pub fn worst(shelf: &[u8], kind: Kind, first: u16, end: u16) -> u8
     requires { ⌜ elementPlace end ≤ length (now shelf) ⌝ }
     ensures { λ r. ⌜ r ≡ worst (now (shelf .entry)) kind first end ⌝ }
 {
@@ -118,17 +119,4 @@ fn worst(shelf: &[u8], kind: Kind, first: u16, end: u16) -> u8
         j += 1;
     }
     code
-}
-
-// What a slot of the status page shows.
-pub fn shown_in(shelf: &[u8], at: Slot) -> Shown
-    requires { ⌜ HasElements (now shelf) at ⌝ }
-    ensures { λ r. ⌜ r ≡ pick (at .overall) (codeAlone (worst (now (shelf .entry)) (at .kind) (at .first) (at .end))) (shownAt (now (shelf .entry)) (at .kind) (at .first)) ⌝ }
-{
-    let kind = at.kind;
-    if at.overall {
-        Shown::code_alone(worst(shelf, kind, at.first, at.end))
-    } else {
-        shown_at(shelf, kind, at.first)
-    }
 }

@@ -9,15 +9,32 @@ use Rattle.bits.specs.Bits.{only}
 use Rattle.bits.specs.Places.{fourAt}
 use Rattle.bits.proofs.Logic.{pick-yes, pick-no, fails}
 use Rattle.bits.proofs.Offence.{refused-at, refused-none}
-use Rattle.element_status.specs.declared.Shown.{Shown}
-use Rattle.element_status.specs.Status.{offending, overallOffending, codeAlone, shownOf}
+use Rattle.element.specs.Status.{statusOffending, overallOffending, codeAlone, entryOf, statusBytes}
 use Rattle.page.specs.declared.slots.Slot.{Slot}
 use Rattle.page.specs.Slots.{slotAt, slotPlace}
+use Rattle.shelf_status.specs.ShelfStatus.{shownAt, worst, shownIn}
 use Rattle.status_page.specs.Page.{slotBytes, slotRow}
 use Rattle.status_page.specs.Read.{slotOffending, offence, slotShown}
 
+-- four bytes of a slot of the shelf's page, overall or of an element, from what the calls say
+module _ (s : List ℕ) (at : Slot) where
+  pub row-overall : {n : ℕ} → at .overall ≡ true → n ≡ worst s (at .kind) (at .first) (at .end)
+      → n ∷ 0 ∷ 0 ∷ 0 ∷ [] ≡ slotBytes at (pick (at .overall) (codeAlone (worst s (at .kind) (at .first) (at .end))) (shownAt s (at .kind) (at .first)))
+  unfolding slotBytes
+  row-overall o h = rw (h, o)
+
+  pub row-element : {e : List ℕ} → at .overall ≡ false → e ≡ statusBytes (at .kind) (shownAt s (at .kind) (at .first))
+      → e ≡ slotBytes at (pick (at .overall) (codeAlone (worst s (at .kind) (at .first) (at .end))) (shownAt s (at .kind) (at .first)))
+  unfolding slotBytes
+  row-element o h = rw o h
+
+pub shelf-row : (s : List ℕ) (i : ℕ) {at : Slot} {e : List ℕ} → at ≡ slotAt s i
+    → e ≡ slotBytes at (pick (at .overall) (codeAlone (worst s (at .kind) (at .first) (at .end))) (shownAt s (at .kind) (at .first))) → e ≡ slotRow s (shownIn s) i
+unfolding shownIn
+shelf-row s i p h = h ∙ rw p
+
 -- four bytes of a slot
-pub row-is : (c : List ℕ) (f : ℕ → Shown) (i : ℕ) {at : Slot} {x : Shown} {e : List ℕ} → at ≡ slotAt c i → x ≡ f i → e ≡ slotBytes at x → e ≡ slotRow c f i
+pub row-is : (c : List ℕ) (f : ℕ → List ℕ) (i : ℕ) {at : Slot} {x : List ℕ} {e : List ℕ} → at ≡ slotAt c i → x ≡ f i → e ≡ slotBytes at x → e ≡ slotRow c f i
 row-is c f i p q h = h ∙ rw (p, q)
 
 -- what the four bytes of slot i say
@@ -26,29 +43,29 @@ module _ (p : List ℕ) (i : ℕ) (at : Slot) {k : ℕ} {e : List ℕ} (u : k �
   four-is = h ∙ ap (fourAt p) u
 
   pub offends-overall : {n : ℕ} → at .overall ≡ true → n ≡ overallOffending e
-      → n ≡ pick (at .overall) (overallOffending (fourAt p (slotPlace i))) (offending (at .kind) (fourAt p (slotPlace i)))
+      → n ≡ pick (at .overall) (overallOffending (fourAt p (slotPlace i))) (statusOffending (at .kind) (fourAt p (slotPlace i)))
   offends-overall o r = r ∙ ap overallOffending four-is ∙ sym (pick-yes _ _ _ o)
 
-  pub offends-element : {n : ℕ} → at .overall ≡ false → n ≡ offending (at .kind) e
-      → n ≡ pick (at .overall) (overallOffending (fourAt p (slotPlace i))) (offending (at .kind) (fourAt p (slotPlace i)))
-  offends-element o r = r ∙ ap (offending (at .kind)) four-is ∙ sym (pick-no _ _ _ o)
+  pub offends-element : {n : ℕ} → at .overall ≡ false → n ≡ statusOffending (at .kind) e
+      → n ≡ pick (at .overall) (overallOffending (fourAt p (slotPlace i))) (statusOffending (at .kind) (fourAt p (slotPlace i)))
+  offends-element o r = r ∙ ap (statusOffending (at .kind)) four-is ∙ sym (pick-no _ _ _ o)
 
-  pub shows-overall : {x : Shown} → at .overall ≡ true → x ≡ codeAlone (getD e 0 0)
-      → x ≡ pick (at .overall) (codeAlone (getD p (slotPlace i) 0)) (shownOf (at .kind) (fourAt p (slotPlace i)))
+  pub shows-overall : {x : List ℕ} → at .overall ≡ true → x ≡ codeAlone (getD e 0 0)
+      → x ≡ pick (at .overall) (codeAlone (getD p (slotPlace i) 0)) (entryOf (at .kind) (fourAt p (slotPlace i)))
   shows-overall o r = r ∙ ap (λ (l : List ℕ). codeAlone (getD l 0 0)) four-is ∙ sym (pick-yes _ _ _ o)
 
-  pub shows-element : {x : Shown} → at .overall ≡ false → x ≡ shownOf (at .kind) e
-      → x ≡ pick (at .overall) (codeAlone (getD p (slotPlace i) 0)) (shownOf (at .kind) (fourAt p (slotPlace i)))
-  shows-element o r = r ∙ ap (shownOf (at .kind)) four-is ∙ sym (pick-no _ _ _ o)
+  pub shows-element : {x : List ℕ} → at .overall ≡ false → x ≡ entryOf (at .kind) e
+      → x ≡ pick (at .overall) (codeAlone (getD p (slotPlace i) 0)) (entryOf (at .kind) (fourAt p (slotPlace i)))
+  shows-element o r = r ∙ ap (entryOf (at .kind)) four-is ∙ sym (pick-no _ _ _ o)
 
 -- and of the slot under a configuration
 module _ (c p : List ℕ) (i : ℕ) {at : Slot} (q : at ≡ slotAt c i) where
-  pub slot-offends : {n : ℕ} → n ≡ pick (at .overall) (overallOffending (fourAt p (slotPlace i))) (offending (at .kind) (fourAt p (slotPlace i)))
+  pub slot-offends : {n : ℕ} → n ≡ pick (at .overall) (overallOffending (fourAt p (slotPlace i))) (statusOffending (at .kind) (fourAt p (slotPlace i)))
       → n ≡ slotOffending c p i
   unfolding slotOffending
   slot-offends h = h ∙ rw q
 
-  pub slot-shows : {x : Shown} → x ≡ pick (at .overall) (codeAlone (getD p (slotPlace i) 0)) (shownOf (at .kind) (fourAt p (slotPlace i)))
+  pub slot-shows : {x : List ℕ} → x ≡ pick (at .overall) (codeAlone (getD p (slotPlace i) 0)) (entryOf (at .kind) (fourAt p (slotPlace i)))
       → x ≡ slotShown c p i
   unfolding slotShown
   slot-shows h = h ∙ rw q

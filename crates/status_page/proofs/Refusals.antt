@@ -4,10 +4,9 @@ use mathlib.Core.Bool.{Bool, true, false}
 use mathlib.Core.List.{List, [], _∷_, _++_}
 use Prim.Native.Nat.{ℕ, _+_, _≤_}
 use lib.Dec.{eqb}
-use lib.ListN.{length, drop}
+use lib.ListN.{length, getD, drop}
 use Rattle.bits.specs.Choice.{pick}
-use Rattle.element.specs.declared.types.Kind.{Kind}
-use Rattle.element.specs.declared.types.Kind.the-variants.{Cooling, Temperature, Voltage, Current}
+use Rattle.bits.specs.Places.{fourAt}
 use Rattle.refusals.specs.declared.Refusal.{Refusal}
 use Rattle.refusals.specs.declared.Refusal.the-variants.{ShelfNotWellFormed, NotAllowed}
 use Rattle.refusals.specs.declared.Answer.{Answer}
@@ -16,8 +15,8 @@ use Rattle.refusals.specs.declared.Written.{Written}
 use Rattle.refusals.specs.declared.Written.the-variants as written
 use Rattle.refusals.specs.Outcomes.{fitted, writes, outAfter, recordAfter}
 use Rattle.shelf_formed.specs.Formed.{wellFormed, configurationFormed}
-use Rattle.element_status.specs.declared.Shown.{Shown}
-use Rattle.element_status.specs.Status.{statusBytes}
+use Rattle.element.specs.Status.{codeAlone, entryOf, statusBytes}
+use Rattle.element.proofs.TypeStatus.{bytes-length, entry-length}
 use Rattle.page.specs.declared.slots.Slot.{Slot}
 use Rattle.page.specs.Slots.{slotsOf, slotAt, slotPlace, slotsPut}
 use Rattle.page.specs.Header.{headed, shelfTested}
@@ -30,26 +29,19 @@ use Rattle.status_page.specs.Page.{slotBytes, slotRow, pageWith, statusP
 use Rattle.status_record.specs.Entries.{recordWith, entryPlace, headPut, entriesPut}
 use Rattle.status_page.specs.Read.{offence, statusRead, slotShown, bitsOn, statusRecord}
 
-bytes-length : (k : Kind) (x : Shown) → length (statusBytes k x) ≡ 4
-unfolding statusBytes
-bytes-length Cooling x = refl
-bytes-length Temperature x = refl
-bytes-length Voltage x = refl
-bytes-length Current x = refl
-
-pub slot-length : (at : Slot) (x : Shown) → length (slotBytes at x) ≡ 4
+pub slot-length : (at : Slot) (x : List ℕ) → length (slotBytes at x) ≡ 4
 unfolding slotBytes
 slot-length at x = go (at .overall)
   where
-    go : (t : Bool) → length (pick t (x .verdict .code ∷ 0 ∷ 0 ∷ 0 ∷ []) (statusBytes (at .kind) x)) ≡ 4
+    go : (t : Bool) → length (pick t (getD x 0 0 ∷ 0 ∷ 0 ∷ 0 ∷ []) (statusBytes (at .kind) x)) ≡ 4
     go true = refl
     go false = bytes-length (at .kind) x
 
-pub row-length : (c : List ℕ) (f : ℕ → Shown) (i : ℕ) → length (slotRow c f i) ≡ 4
+pub row-length : (c : List ℕ) (f : ℕ → List ℕ) (i : ℕ) → length (slotRow c f i) ≡ 4
 row-length c f i = slot-length (slotAt c i) (f i)
 
 -- a page with n slots, written if it fits
-module _ (c out : List ℕ) (b : PageBits) (f : ℕ → Shown) (n : ℕ) {k : ℕ} {w : Written} (e : n ≡ slotsOf c) (p : k ≡ slotPlace n)
+module _ (c out : List ℕ) (b : PageBits) (f : ℕ → List ℕ) (n : ℕ) {k : ℕ} {w : Written} (e : n ≡ slotsOf c) (p : k ≡ slotPlace n)
     (q : w ≡ fitted k (length out)) where
   pub with-fits : w ≡ fitted (length (pageWith c b f)) (length out)
   unfolding pageWith
@@ -92,6 +84,15 @@ module _ (c p : List ℕ) where
       unfolding statusRead
       page-read t = sym (rw (e, ← q, ← h, u, ← x, ← y, t))
 
+-- the entry that a slot says has sixteen bytes
+pub shown-length : (c p : List ℕ) (i : ℕ) → length (slotShown c p i) ≡ 16
+unfolding slotShown
+shown-length c p i = go (slotAt c i .overall)
+  where
+    go : (t : Bool) → length (pick t (codeAlone (getD p (slotPlace i) 0)) (entryOf (slotAt c i .kind) (fourAt p (slotPlace i)))) ≡ 16
+    go true = refl
+    go false = entry-length (slotAt c i .kind) (fourAt p (slotPlace i))
+
 -- what the reader leaves
 pub record-out : (c p r : List ℕ) {n : ℕ} {b : PageBits} {x y : List ℕ} → n ≡ slotsOf c → entryPlace n ≤ length r → b ≡ bitsOn p → x ≡ headPut r b n
     → y ≡ entriesPut (slotShown c p) x n → y ≡ recordAfter answer.Accepted (statusRecord c p) r
@@ -99,5 +100,5 @@ unfolding statusRecord
 record-out c p r {n} {b} {x} {y} e l q u v =
     v
     ∙ ap (λ (o : List ℕ). entriesPut (slotShown c p) o n) (u ∙ ap (λ z. headPut r z n) q)
-    ∙ record-put (slotShown c p) (bitsOn p) r n l
+    ∙ record-put (slotShown c p) (shown-length c p) (bitsOn p) r n l
     ∙ ap (λ (m : ℕ). recordWith (bitsOn p) (slotShown c p) m ++ drop (length (recordWith (bitsOn p) (slotShown c p) m)) r) e

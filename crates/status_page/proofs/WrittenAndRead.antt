@@ -14,10 +14,10 @@ use Rattle.bits.proofs.Halves.{nibble-bits}
 use Rattle.bits.specs.Numbers.{Bytes}
 use Rattle.bits.proofs.Rows.{joined-same}
 use Rattle.element.specs.declared.types.Kind.{Kind}
+use Rattle.element.specs.declared.settings.Settings.{Settings}
 use Rattle.element.specs.Types.{readingAllowed}
 use Rattle.element.specs.Settings.{settingsOf}
-use Rattle.element.proofs.SettingsBothWays.{settings-storable}
-use Rattle.element_verdict.specs.Verdict.{verdictOf}
+use Rattle.element.specs.Types.{verdictOf}
 use Rattle.refusals.specs.declared.Answer.the-variants.{Accepted}
 use Rattle.shelf.specs.Limits.{mostTypes, mostElements, elementPlace}
 use Rattle.shelf.specs.Types.{kindAt}
@@ -26,9 +26,10 @@ use Rattle.shelf_formed.specs.Formed.{frontFormed, wellFormed}
 use Rattle.shelf_formed.proofs.ElementTypes.{front-formed}
 use Rattle.shelf_formed.proofs.FormedShelf.{in-element}
 use Rattle.shelf_formed.proofs.FrontOfShelf.{front, configuration-of}
-use Rattle.element_status.specs.declared.Shown.{Shown}
-use Rattle.element_status.specs.Status.{codeAllowed, shownBy, shownOf, statusBytes, offending, overallOffending, codeAlone, showable}
-use Rattle.element_status.proofs.StatusBothWays.{shown-back, by-showable, shown-clear}
+use Rattle.element.specs.Rules.{codeAllowed}
+use Rattle.element.specs.Status.{shownBy, entryOf, entryBy, statusBytes, statusOffending, overallOffending, codeAlone}
+use Rattle.element.proofs.StoredSettings.{settings-storable}
+use Rattle.element.proofs.TypeStatus.{shown-back, shown-clear}
 use Rattle.page.specs.declared.slots.Slot.{Slot}
 use Rattle.page.specs.Slots.{slotsOf, slotAt, slotPlace}
 use Rattle.page.specs.Header.{headed, header}
@@ -39,7 +40,7 @@ use Rattle.page.proofs.HeaderBothWays.{byte-small, head-written}
 use Rattle.shelf_status.specs.declared.PageBits.{PageBits}
 use Rattle.shelf_status.specs.ShelfStatus.{shownAt, worst, has, shownIn, pageBits, bitsByte}
 use Rattle.status_page.specs.Page.{slotBytes, slotRow, pageWith, statusPage}
-use Rattle.status_record.specs.Entries.{recordWith, entryBytes, headRow}
+use Rattle.status_record.specs.Entries.{recordWith, headRow}
 use Rattle.status_page.specs.Read.{slotOffending, statusRead, slotShown, bitsOn, statusRecord}
 use Rattle.status_page.proofs.Refusals.{row-length, page-read}
 use Rattle.status_page.proofs.Loops.{none-refused}
@@ -109,19 +110,28 @@ module _ (s : List ℕ) (hs : Bytes s) (w : wellFormed s ≡ true) where
     unfolding shownIn
     shows-element o = pick-no _ _ _ o
 
-    -- what an individual slot shows can be shown
-    element-showable : at .overall ≡ false → showable (at .kind) (shownIn s i) ≡ true
-    unfolding shownAt
-    element-showable o =
+    -- what an individual slot shows is not refused, and is read back
+    allowed : at .overall ≡ false → readingAllowed (at .kind) (readingAt s (at .first)) ≡ true
+    allowed o =
         let j = at .first in
-        ap (showable (at .kind)) (shows-element o)
-        ∙ by-showable (at .kind) (settingsOf (at .kind) (settingsAt s j)) (readingAt s j) (nominalAt s j) (thresholdsAt s j)
-        (settings-storable (at .kind) (settingsAt s j))
-        (ap (λ (k : Kind). readingAllowed k (readingAt s j)) (sym (kind-first s f i l o)) ∙ in-element s w j (first-there s f i l o) .3)
+        ap (λ (k : Kind). readingAllowed k (readingAt s j)) (sym (kind-first s f i l o)) ∙ in-element s w j (first-there s f i l o) .3
 
-    element-small : at .overall ≡ false → shownIn s i .reading < 65536
-    unfolding shownAt shownBy
-    element-small o = rw (shows-element o) (reading-small (at .first))
+    element-clear : at .overall ≡ false → statusOffending (at .kind) (statusBytes (at .kind) (shownIn s i)) ≡ 4
+    unfolding shownAt
+    element-clear o =
+        let k = at .kind in
+        let j = at .first in
+        ap (λ (x : List ℕ). statusOffending k (statusBytes k x)) (shows-element o)
+        ∙ shown-clear k (settingsOf k (settingsAt s j)) (readingAt s j) (nominalAt s j) (thresholdsAt s j) (settings-storable k (settingsAt s j)) (reading-small j) (allowed o)
+
+    element-back : at .overall ≡ false → entryOf (at .kind) (statusBytes (at .kind) (shownIn s i)) ≡ shownIn s i
+    unfolding shownAt
+    element-back o =
+        let k = at .kind in
+        let j = at .first in
+        ap (λ (x : List ℕ). entryOf k (statusBytes k x)) (shows-element o)
+        ∙ shown-back k (settingsOf k (settingsAt s j)) (readingAt s j) (nominalAt s j) (thresholdsAt s j) (settings-storable k (settingsAt s j)) (reading-small j) (allowed o)
+        ∙ sym (shows-element o)
 
     row-overall : at .overall ≡ true → slotRow s (shownIn s) i ≡ worst s (at .kind) (at .first) (at .end) ∷ 0 ∷ 0 ∷ 0 ∷ []
     unfolding slotBytes
@@ -142,7 +152,7 @@ module _ (s : List ℕ) (hs : Bytes s) (w : wellFormed s ≡ true) where
         rw (slot-same s f i l, on-page)
         (by-case (at .overall)
         (λ o. pick-yes _ _ _ o ∙ ap overallOffending (row-overall o) ∙ alone)
-        (λ o. pick-no _ _ _ o ∙ ap (offending (at .kind)) (row-element o) ∙ shown-clear (at .kind) (shownIn s i) (element-showable o)))
+        (λ o. pick-no _ _ _ o ∙ ap (statusOffending (at .kind)) (row-element o) ∙ element-clear o))
       where
         alone : overallOffending (worst s (at .kind) (at .first) (at .end) ∷ 0 ∷ 0 ∷ 0 ∷ []) ≡ 4
         alone = overall-clear (worst s (at .kind) (at .first) (at .end)) (worst-allowed s (at .kind) (at .first) (at .end))
@@ -154,15 +164,16 @@ module _ (s : List ℕ) (hs : Bytes s) (w : wellFormed s ≡ true) where
         rw (slot-same s f i l)
         (by-case (at .overall)
         (λ o. pick-yes _ _ _ o ∙ ap codeAlone (g ∙ ap (λ (e : List ℕ). getD e 0 0) (row-overall o)) ∙ sym (shows-overall o))
-        (λ o. pick-no _ _ _ o ∙ ap (shownOf (at .kind)) (on-page ∙ row-element o) ∙ shown-back (at .kind) (shownIn s i) (element-small o) (element-showable o)))
+        (λ o. pick-no _ _ _ o ∙ ap (entryOf (at .kind)) (on-page ∙ row-element o) ∙ element-back o))
 
-    -- the verdict that an individual element shows follows from what the shelf stores of it
+    -- what an individual element shows follows from what the shelf stores of it, the verdict as the definition gives it
     pub told-verdict : at .overall ≡ false
         → let j : ℕ = at .first in
-        slotShown (front s) (statusPage s) i .verdict
-        ≡ verdictOf (kindAt s j) (settingsOf (kindAt s j) (settingsAt s j) .on) (readingAt s j) (nominalAt s j) (thresholdsAt s j)
+        let k : Kind = kindAt s j in
+        let e : Settings = settingsOf k (settingsAt s j) in
+        slotShown (front s) (statusPage s) i ≡ entryBy k e (verdictOf k e (readingAt s j) (nominalAt s j) (thresholdsAt s j)) (readingAt s j)
     unfolding shownAt shownBy
-    told-verdict o = rw (kind-first s f i l o) (ap (λ (x : Shown). x .verdict) (shown-told ∙ shows-element o))
+    told-verdict o = rw (kind-first s f i l o) (shown-told ∙ shows-element o)
 
   own : getD (statusPage s) 1 0 ≡ bitsByte (pageBits s)
   unfolding statusPage pageWith header
@@ -191,7 +202,7 @@ module _ (s : List ℕ) (hs : Bytes s) (w : wellFormed s ≡ true) where
       let n = slotsOf s in
       rw (slots-same s, bits-told)
       (ap (λ (o : List ℕ). headRow (pageBits s) n ++ o)
-      (joined-same (λ i. entryBytes (slotShown (front s) (statusPage s) i)) (λ i. entryBytes (shownIn s i)) n (λ i l. ap entryBytes (shown-told i l))))
+      (joined-same (slotShown (front s) (statusPage s)) (shownIn s) n shown-told))
     where
       bits-told : bitsOn (statusPage s) ≡ pageBits s
       bits-told = bits-on (statusPage s) (pageBits s) own

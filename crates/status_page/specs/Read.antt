@@ -11,8 +11,7 @@ use Rattle.refusals.specs.declared.Answer.{Answer}
 use Rattle.refusals.specs.declared.Answer.the-variants.{Accepted}
 use Rattle.refusals.specs.Outcomes.{unless, next}
 use Rattle.shelf_formed.specs.Formed.{configurationFormed}
-use Rattle.element_status.specs.declared.Shown.{Shown}
-use Rattle.element_status.specs.Status.{offending, overallOffending, codeAlone, shownOf}
+use Rattle.element.specs.Status.{statusOffending, overallOffending, codeAlone, entryOf}
 use Rattle.page.specs.declared.slots.Slot.{Slot}
 use Rattle.page.specs.Slots.{slotsOf, slotAt, slotPlace}
 use Rattle.page.specs.Header.{headed}
@@ -23,7 +22,7 @@ use Rattle.status_record.specs.Entries.{recordWith}
 unfoldable pub slotOffending : List ℕ → List ℕ → ℕ → ℕ
 slotOffending c p i =
     let at : Slot = slotAt c i in
-    pick (at .overall) (overallOffending (fourAt p (slotPlace i))) (offending (at .kind) (fourAt p (slotPlace i)))
+    pick (at .overall) (overallOffending (fourAt p (slotPlace i))) (statusOffending (at .kind) (fourAt p (slotPlace i)))
 
 -- where the first refused byte stands, or where the page ends; byte 1 may have NON-CRIT and CRIT, bits 2 and 1, and no other
 unfoldable pub offence : List ℕ → List ℕ → ℕ → ℕ
@@ -36,11 +35,11 @@ statusRead c p =
     (next (headed c p 0x02 (slotsOf c))
     (unless (eqb (offence c p (slotsOf c)) (slotPlace (slotsOf c))) NotAllowed Accepted))
 
--- what slot i shows
-unfoldable pub slotShown : List ℕ → List ℕ → ℕ → Shown
+-- the entry that slot i says
+unfoldable pub slotShown : List ℕ → List ℕ → ℕ → List ℕ
 slotShown c p i =
     let at : Slot = slotAt c i in
-    pick (at .overall) (codeAlone (getD p (slotPlace i) 0)) (shownOf (at .kind) (fourAt p (slotPlace i)))
+    pick (at .overall) (codeAlone (getD p (slotPlace i) 0)) (entryOf (at .kind) (fourAt p (slotPlace i)))
 
 unfoldable pub bitsOn : List ℕ → PageBits
 bitsOn p = record { noncritical = bit 2 (getD p 1 0); critical = bit 1 (getD p 1 0) }

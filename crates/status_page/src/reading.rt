@@ -1,6 +1,5 @@
 // The page read, under a configuration.
 use crate::writing;
-use element_status::Shown;
 use page::header;
 use page::slots;
 use page::slots::Slot;
@@ -13,7 +12,7 @@ ghost use Prim.Native.Nat.{_+_, _≤_};
 ghost use lib.ListN.{length, getD};
 ghost use Rattle.bits.specs.Choice.{pick};
 ghost use Rattle.bits.specs.Places.{fourAt};
-ghost use Rattle.element_status.specs.Status.{offending, overallOffending, codeAlone, shownOf};
+ghost use Rattle.element.specs.Status.{statusOffending, overallOffending, codeAlone, entryOf};
 ghost use Rattle.refusals.specs.Outcomes.{recordAfter};
 ghost use Rattle.shelf_formed.specs.Formed.{HasFront};
 ghost use Rattle.page.specs.Slots.{slotsOf, slotPlace};
@@ -23,14 +22,14 @@ ghost use Rattle.status_page.specs.Read.{offence, slotShown, bitsOn, sta
 // The first byte of slot i that is refused; 4 if none is.
 fn slot_offending(page: &[u8], at: Slot, i: u16) -> u8
     requires { ⌜ slotPlace i + 4 ≤ length (now page) ⌝ }
-    ensures { λ r. ⌜ r ≡ pick (at .overall) (overallOffending (fourAt (now (page .entry)) (slotPlace i))) (offending (at .kind) (fourAt (now (page .entry)) (slotPlace i))) ⌝ }
+    ensures { λ r. ⌜ r ≡ pick (at .overall) (overallOffending (fourAt (now (page .entry)) (slotPlace i))) (statusOffending (at .kind) (fourAt (now (page .entry)) (slotPlace i))) ⌝ }
 {
     let kind = at.kind;
     let e = bits::four_at(page, slots::slot_place(i));
     if at.overall {
-        Shown::overall_offending(e)
+        element_status::overall_offending(e)
     } else {
-        Shown::offending(kind, e)
+        element_status::offending(kind, e)
     }
 }
 
@@ -59,16 +58,17 @@ fn first_offence(configuration: &[u8], page: &[u8], n: u16) -> u32
     slots::slot_place(n)
 }
 
-fn slot_shown(page: &[u8], at: Slot, i: u16) -> Shown
+// The entry that a slot says.
+fn slot_shown(page: &[u8], at: Slot, i: u16) -> [u8; element_status::ENTRY]
     requires { ⌜ slotPlace i + 4 ≤ length (now page) ⌝ }
-    ensures { λ r. ⌜ r ≡ pick (at .overall) (codeAlone (getD (now (page .entry)) (slotPlace i) 0)) (shownOf (at .kind) (fourAt (now (page .entry)) (slotPlace i))) ⌝ }
+    ensures { λ r. ⌜ r ≡ pick (at .overall) (codeAlone (getD (now (page .entry)) (slotPlace i) 0)) (entryOf (at .kind) (fourAt (now (page .entry)) (slotPlace i))) ⌝ }
 {
     let kind = at.kind;
     let e = bits::four_at(page, slots::slot_place(i));
     if at.overall {
-        Shown::code_alone(e[0])
+        element_status::code_alone(e[0])
     } else {
-        Shown::of(kind, e)
+        element_status::entry(kind, e)
     }
 }
 

@@ -1,5 +1,4 @@
 // The page of a shelf.
-use element_status::Shown;
 use page::header;
 use page::slots;
 use page::slots::Slot;
@@ -9,21 +8,37 @@ use shelf_formed::Opened;
 use shelf_status::PageBits;
 ghost use mathlib.Core.Path.{_≡_};
 ghost use Rattle.refusals.specs.Outcomes.{writes, outAfter};
-ghost use Rattle.shelf_status.specs.ShelfStatus.{shownIn};
-ghost use Rattle.page.specs.Slots.{slotsOf, slotsPut};
+ghost use Rattle.bits.specs.Choice.{pick};
+ghost use Rattle.element.specs.Status.{codeAlone};
+ghost use Rattle.shelf_status.specs.ShelfStatus.{shownAt, worst, shownIn};
+ghost use Rattle.page.specs.Slots.{slotsOf, slotsPut, HasElements};
 ghost use Rattle.page.specs.Header.{shelfTested, HasPage};
 ghost use Rattle.status_page.specs.Page.{slotBytes, slotRow, statusPage};
 
 pub const CODE: u8 = 0x02;
 
-pub fn slot_bytes(at: Slot, x: Shown) -> [u8; 4]
+// The four bytes of a slot that say an entry.
+pub fn slot_bytes(at: Slot, x: [u8; element_status::ENTRY]) -> [u8; 4]
     ensures { λ r. ⌜ r ≡ slotBytes at x ⌝ }
 {
     let kind = at.kind;
     if at.overall {
-        [x.verdict.code, 0, 0, 0]
+        [x[0], 0, 0, 0]
     } else {
-        x.bytes(kind)
+        element_status::bytes(kind, x)
+    }
+}
+
+// The four bytes of a slot of the shelf's page.
+fn slot_row(shelf: &[u8], at: Slot) -> [u8; 4]
+    requires { ⌜ HasElements (now shelf) at ⌝ }
+    ensures { λ r. ⌜ r ≡ slotBytes at (pick (at .overall) (codeAlone (worst (now (shelf .entry)) (at .kind) (at .first) (at .end))) (shownAt (now (shelf .entry)) (at .kind) (at .first))) ⌝ }
+{
+    let kind = at.kind;
+    if at.overall {
+        [shelf_status::worst(shelf, kind, at.first, at.end), 0, 0, 0]
+    } else {
+        shelf_status::status_at(shelf, kind, at.first)
     }
 }
 
@@ -38,8 +53,7 @@ fn put_slots(shelf: &[u8], out: &mut [u8], n: u16)
         let here = slots::run_to(shelf, run, i);
         run = here;
         let at = slots::slot_in(here, i);
-        let e = slot_bytes(at, shelf_status::shown_in(shelf, at));
-        bits::put_four(out, slots::slot_place(i), e);
+        bits::put_four(out, slots::slot_place(i), slot_row(shelf, at));
         i += 1;
     }
 }

@@ -12,12 +12,10 @@ use Rattle.bits.specs.Choice.{pick, offenceIn}
 use Rattle.bits.specs.Bits.{bit, only, nibble}
 use Rattle.bits.specs.Places.{fourAt}
 use Rattle.bits.proofs.Offence.{row-fine}
-use Rattle.bits.proofs.Logic.{pick-yes, pick-no, and-both, below-all, by-case, all-four, first-small}
+use Rattle.bits.proofs.Logic.{pick-yes, pick-no, below-all, by-case, all-four}
 use Rattle.bits.proofs.Halves.{again-byte}
 use Rattle.bits.specs.Numbers.{Bytes}
 use Rattle.bits.proofs.Rows.{joined-same, fours}
-use Rattle.element.specs.declared.types.Kind.{Kind}
-use Rattle.element.specs.declared.types.Kind.the-variants.{Cooling, Temperature, Voltage, Current}
 use Rattle.refusals.specs.declared.Refusal.the-variants.{ShelfNotWellFormed, NotAllowed}
 use Rattle.refusals.specs.declared.Answer.{Answer}
 use Rattle.refusals.specs.declared.Answer.the-variants.{Accepted}
@@ -25,8 +23,10 @@ use Rattle.refusals.specs.Outcomes.{unless, next}
 use Rattle.refusals.proofs.AcceptedTests.{held, held-both}
 use Rattle.shelf.specs.Limits.{mostTypes, mostElements}
 use Rattle.shelf_formed.specs.Formed.{configurationFormed}
-use Rattle.element_status.specs.Status.{codeAllowed, readingOf, shownOf, statusBytes, offending, overallOffending, codeAlone, showable, overallShowable}
-use Rattle.element_status.proofs.StatusBothWays.{shown-again, clear-showable}
+use Rattle.element.specs.StatusLayout.{fit}
+use Rattle.element.specs.Rules.{codeAllowed}
+use Rattle.element.specs.Status.{entryOf, statusBytes, statusOffending, overallOffending, codeAlone}
+use Rattle.element.proofs.TypeStatus.{offence-small, overall-small, status-again, entry-fit, alone-fit}
 use Rattle.page.specs.declared.slots.Slot.{Slot}
 use Rattle.page.specs.Slots.{slotsOf, slotAt, slotPlace}
 use Rattle.page.specs.Header.{headed}
@@ -36,16 +36,17 @@ use Rattle.shelf_status.specs.ShelfStatus.{bitsByte}
 use Rattle.status_page.specs.Page.{slotBytes, slotRow, pageWith}
 use Rattle.status_record.specs.Entries.{entryAt, bitsAt, entriesIn}
 use Rattle.status_page.specs.Read.{slotOffending, offence, statusRead, slotShown, bitsOn, statusRecord}
-use Rattle.status_rewritten.specs.Rewritten.{slotShowable, entryFormed, entriesFormed, recordTested, pageAgain}
-use Rattle.status_record.proofs.WholeRecord.{bits-back, bits-fine, count-back, entry-back, flags-back}
+use Rattle.status_rewritten.specs.Rewritten.{slotMost, entryFormed, entriesFormed, recordTested, pageAgain}
+use Rattle.status_record.proofs.WholeRecord.{bits-back, bits-fine, count-back, entry-back}
+use Rattle.status_page.proofs.Refusals.{shown-length}
 
 slot-small : (c p : List ℕ) (i : ℕ) → slotOffending c p i ≤ 4
-unfolding slotOffending offending overallOffending
+unfolding slotOffending
 slot-small c p i = go (slotAt c i .overall)
   where
-    go : (t : Bool) → pick t (overallOffending (fourAt p (slotPlace i))) (offending (slotAt c i .kind) (fourAt p (slotPlace i))) ≤ 4
-    go true = first-small _ _ _ _
-    go false = first-small _ _ _ _
+    go : (t : Bool) → pick t (overallOffending (fourAt p (slotPlace i))) (statusOffending (slotAt c i .kind) (fourAt p (slotPlace i))) ≤ 4
+    go true = overall-small (fourAt p (slotPlace i))
+    go false = offence-small (slotAt c i .kind) (fourAt p (slotPlace i))
 
 -- a page without a refused byte
 module _ (c p : List ℕ) (n : ℕ) (h : offence c p n ≡ slotPlace n) where
@@ -81,7 +82,7 @@ module _ (c p : List ℕ) (hp : Bytes p) (i : ℕ) (h : slotOffending c p i ≡ 
       all-four (codeAllowed (getD p k 0)) (eqb (getD p (k + 1) 0) 0) (eqb (getD p (k + 2) 0) 0) (eqb (getD p (k + 3) 0) 0)
       (sym (pick-yes _ _ _ o) ∙ h)
 
-  element-fine : at .overall ≡ false → offending (at .kind) (fourAt p k) ≡ 4
+  element-fine : at .overall ≡ false → statusOffending (at .kind) (fourAt p k) ≡ 4
   unfolding slotOffending
   element-fine o = sym (pick-no _ _ _ o) ∙ h
 
@@ -89,7 +90,7 @@ module _ (c p : List ℕ) (hp : Bytes p) (i : ℕ) (h : slotOffending c p i ≡ 
   unfolding slotShown
   shown-overall o = pick-yes _ _ _ o
 
-  shown-element : at .overall ≡ false → slotShown c p i ≡ shownOf (at .kind) (fourAt p k)
+  shown-element : at .overall ≡ false → slotShown c p i ≡ entryOf (at .kind) (fourAt p k)
   unfolding slotShown
   shown-element o = pick-no _ _ _ o
 
@@ -105,37 +106,17 @@ module _ (c p : List ℕ) (hp : Bytes p) (i : ℕ) (h : slotOffending c p i ≡ 
   row-element o =
       pick-no _ _ _ o
       ∙ ap (statusBytes (at .kind)) (shown-element o)
-      ∙ shown-again (at .kind) (getD p k 0) (getD p (k + 1) 0) (getD p (k + 2) 0) (getD p (k + 3) 0) (small k) (small (k + 1)) (small (k + 2)) (small (k + 3))
-      (element-fine o)
+      ∙ status-again (at .kind) (getD p k 0) (getD p (k + 1) 0) (getD p (k + 2) 0) (getD p (k + 3) 0) (element-fine o) (small k) (small (k + 1)) (small (k + 2))
+      (small (k + 3))
 
   pub row-again : slotBytes at (slotShown c p i) ≡ fourAt p k
   row-again = by-case (at .overall) row-overall row-element
 
-  alone-showable : (n : ℕ) → codeAllowed n ≡ true → overallShowable (codeAlone n) ≡ true
-  unfolding overallShowable
-  alone-showable n e = rw e
-
-  pub shown-fine : slotShowable at (slotShown c p i) ≡ true
+  pub shown-fine : fit (slotMost at) (slotShown c p i) 16 ≡ true
   shown-fine =
       by-case (at .overall)
-      (λ o. pick-yes _ _ _ o ∙ ap overallShowable (shown-overall o) ∙ alone-showable (getD p k 0) (overall-fine o .0))
-      (λ o. pick-no _ _ _ o ∙ ap (showable (at .kind)) (shown-element o)
-      ∙ clear-showable (at .kind) (getD p k 0) (getD p (k + 1) 0) (getD p (k + 2) 0) (getD p (k + 3) 0) (small k) (small (k + 1)) (small (k + 2)) (small (k + 3))
-      (element-fine o))
-
-  reading-small : (x : Kind) → readingOf x (fourAt p k) < 65536
-  unfolding readingOf
-  reading-small Cooling = omega (arith, small (k + 2))
-  reading-small Temperature = omega (arith, small (k + 2))
-  reading-small Voltage = omega (arith, small (k + 2), small (k + 3))
-  reading-small Current = omega (arith, small (k + 2), small (k + 3))
-
-  pub shown-small : slotShown c p i .reading < 65536
-  unfolding shownOf
-  shown-small =
-      by-case (at .overall)
-      (λ o. rw (shown-overall o) (omega arith))
-      (λ o. rw (shown-element o) (reading-small (at .kind)))
+      (λ o. rw (o, shown-overall o) (alone-fit (getD p k 0) (overall-fine o .0)))
+      (λ o. rw (o, shown-element o) (entry-fit (at .kind) (getD p k 0) (getD p (k + 1) 0) (getD p (k + 2) 0) (getD p (k + 3) 0) (element-fine o)))
 
 -- byte 1 again
 own-again : (b : ℕ) → b < 256 → only (2 ∷ 1 ∷ []) b ≡ true → nibble false (bit 2 b) (bit 1 b) false ≡ b
@@ -167,29 +148,27 @@ module _ (c p rest : List ℕ) (hc : Bytes c) (hp : Bytes p) (a : statusRead c p
 
   entry-told : (i : ℕ) → i < slotsOf c → entryAt record-told i ≡ slotShown c p i
   unfolding statusRecord
-  entry-told i l = entry-back (bitsOn p) (slotShown c p) (slotsOf c) rest (omega (arith, few)) i l (shown-small c p hp i (fine i l))
+  entry-told i l = entry-back (bitsOn p) (slotShown c p) (shown-length c p) (slotsOf c) rest (omega (arith, few)) i l
 
   entry-fine : (i : ℕ) → i < slotsOf c → entryFormed c record-told i ≡ true
-  unfolding statusRecord entryFormed
-  entry-fine i l =
-      and-both (flags-back (bitsOn p) (slotShown c p) (slotsOf c) rest (omega (arith, few)) i l)
-      (ap (slotShowable (slotAt c i)) (entry-told i l) ∙ shown-fine c p hp i (fine i l))
+  unfolding entryFormed
+  entry-fine i l = ap (λ (x : List ℕ). fit (slotMost (slotAt c i)) x 16) (entry-told i l) ∙ shown-fine c p hp i (fine i l)
 
   pub asked-again : recordTested c record-told ≡ Accepted
   unfolding recordTested entriesFormed statusRecord
   asked-again =
-      let n : entriesIn record-told ≡ slotsOf c = count-back (bitsOn p) (slotShown c p) (slotsOf c) rest (omega (arith, few)) in
+      let n : entriesIn record-told ≡ slotsOf c = count-back (bitsOn p) (slotShown c p) (shown-length c p) (slotsOf c) rest (omega (arith, few)) in
       rw (
         passed .0,
         eq-eqb (entriesIn record-told) (slotsOf c) n,
-        bits-fine (bitsOn p) (slotShown c p) (slotsOf c) rest (omega (arith, few)),
+        bits-fine (bitsOn p) (slotShown c p) (shown-length c p) (slotsOf c) rest (omega (arith, few)),
         below-all (entryFormed c record-told) (slotsOf c) entry-fine,
       )
 
   bits-told : bitsByte (bitsAt record-told) ≡ getD p 1 0
   unfolding statusRecord bitsOn
   bits-told =
-      ap bitsByte (bits-back (bitsOn p) (slotShown c p) (slotsOf c) rest (omega (arith, few)))
+      ap bitsByte (bits-back (bitsOn p) (slotShown c p) (shown-length c p) (slotsOf c) rest (omega (arith, few)))
       ∙ own-again (getD p 1 0) (byte-small p hp 1) (own-fine c p (slotsOf c) no-offence)
 
   pub page-again : pageAgain c record-told ≡ p

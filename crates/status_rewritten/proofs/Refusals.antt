@@ -1,16 +1,14 @@
 -- The test of one entry, and the refusals of the writer one after the other. Assumes nothing.
-use mathlib.Core.Path.{_≡_, sym, ap, _∙_}
-use mathlib.Core.Bool.{Bool, true, false, _&&_}
+use mathlib.Core.Path.{_≡_, _∙_}
+use mathlib.Core.Bool.{Bool, true, false}
 use mathlib.Core.List.{List}
 use Prim.Native.Nat.{ℕ}
 use lib.ListN.{length}
-use Rattle.bits.proofs.Logic.{pick-yes, pick-no}
-use Rattle.element_status.specs.declared.Shown.{Shown}
-use Rattle.element_status.specs.Status.{showable, overallShowable}
+use Rattle.element.specs.StatusLayout.{fit}
 use Rattle.page.specs.declared.slots.Slot.{Slot}
 use Rattle.page.specs.Slots.{slotAt, slotsOf}
-use Rattle.status_record.specs.Entries.{entryAt, flagsFormed, entriesIn, bitsFormed}
-use Rattle.status_rewritten.specs.Rewritten.{slotShowable, entryFormed, entriesFormed, recordTested, pageAgain}
+use Rattle.status_record.specs.Entries.{entryAt, entriesIn, bitsFormed}
+use Rattle.status_rewritten.specs.Rewritten.{slotMost, entryFormed, entriesFormed, recordTested, pageAgain}
 use lib.Dec.{eqb}
 use Rattle.refusals.specs.declared.Refusal.the-variants.{ShelfNotWellFormed, NotAllowed, WantedList}
 use Rattle.refusals.specs.declared.Written.{Written}
@@ -19,16 +17,9 @@ use Rattle.shelf_formed.specs.Formed.{configurationFormed}
 use Rattle.refusals.specs.declared.Written.the-variants as written
 
 -- one entry's test
-module _ (r : List ℕ) (i : ℕ) (at : Slot) {f t : Bool} {x : Shown} (u : f ≡ flagsFormed r i) (h : x ≡ entryAt r i) where
-  pub formed-overall : at .overall ≡ true → t ≡ overallShowable x → f && t ≡ flagsFormed r i && slotShowable at (entryAt r i)
-  formed-overall o e = rw (u, e, h) (ap (λ b. flagsFormed r i && b) (sym (pick-yes _ _ _ o)))
-
-  pub formed-element : at .overall ≡ false → t ≡ showable (at .kind) x → f && t ≡ flagsFormed r i && slotShowable at (entryAt r i)
-  formed-element o e = rw (u, e, h) (ap (λ b. flagsFormed r i && b) (sym (pick-no _ _ _ o)))
-
-pub entry-asked : (c r : List ℕ) (i : ℕ) {at : Slot} {t : Bool} → at ≡ slotAt c i → t ≡ flagsFormed r i && slotShowable at (entryAt r i) → t ≡ entryFormed c r i
+pub entry-tested : (c r : List ℕ) (i : ℕ) {at : Slot} {t : Bool} → at ≡ slotAt c i → t ≡ fit (slotMost at) (entryAt r i) 16 → t ≡ entryFormed c r i
 unfolding entryFormed
-entry-asked c r i q h = h ∙ rw q
+entry-tested c r i q h = h ∙ rw q
 
 -- the writer from a record
 module _ (c r out : List ℕ) where

@@ -1,5 +1,5 @@
 -- The status page written again from a record r. Assumes nothing.
-use mathlib.Core.Bool.{Bool, _&&_}
+use mathlib.Core.Bool.{Bool}
 use mathlib.Core.List.{List}
 use Prim.Native.Nat.{ℕ}
 use lib.Dec.{eqb}
@@ -9,19 +9,19 @@ use Rattle.refusals.specs.declared.Answer.{Answer}
 use Rattle.refusals.specs.declared.Answer.the-variants.{Accepted}
 use Rattle.refusals.specs.Outcomes.{unless}
 use Rattle.shelf_formed.specs.Formed.{configurationFormed}
-use Rattle.element_status.specs.declared.Shown.{Shown}
-use Rattle.element_status.specs.Status.{showable, overallShowable}
+use Rattle.element.specs.StatusLayout.{fit}
+use Rattle.element.specs.Status.{mostShown, mostOverall}
 use Rattle.page.specs.declared.slots.Slot.{Slot}
 use Rattle.page.specs.Slots.{slotsOf, slotAt}
 use Rattle.status_page.specs.Page.{pageWith}
-use Rattle.status_record.specs.Entries.{entryAt, flagsFormed, bitsAt, bitsFormed, entriesIn}
+use Rattle.status_record.specs.Entries.{entryAt, bitsAt, bitsFormed, entriesIn}
 
 -- no field is out of range, or set where the slot shows none
-abbrev pub slotShowable : Slot → Shown → Bool
-slotShowable at x = pick (at .overall) (overallShowable x) (showable (at .kind) x)
+abbrev pub slotMost : Slot → List ℕ
+slotMost at = pick (at .overall) mostOverall (mostShown (at .kind))
 
 unfoldable pub entryFormed : List ℕ → List ℕ → ℕ → Bool
-entryFormed c r i = flagsFormed r i && slotShowable (slotAt c i) (entryAt r i)
+entryFormed c r i = fit (slotMost (slotAt c i)) (entryAt r i) 16
 
 unfoldable pub entriesFormed : List ℕ → List ℕ → ℕ → Bool
 entriesFormed c r n = allBelow (entryFormed c r) n

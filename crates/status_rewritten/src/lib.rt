@@ -7,29 +7,34 @@ use refusals::Written;
 use shelf_formed::Opened;
 use status_page::writing;
 ghost use mathlib.Core.Path.{_≡_};
-ghost use mathlib.Core.Bool.{_&&_};
 ghost use Prim.Native.Nat.{_≤_};
 ghost use lib.ListN.{length};
+ghost use Rattle.element.specs.StatusLayout.{fit};
 ghost use Rattle.refusals.specs.Outcomes.{writes, outAfter};
 ghost use Rattle.shelf_formed.specs.Formed.{HasFront};
 ghost use Rattle.page.specs.Slots.{slotsOf, slotPlace, slotsPut};
 ghost use Rattle.status_page.specs.Page.{slotRow};
-ghost use Rattle.status_record.specs.Entries.{entryPlace, HasEntry, entryAt, flagsFormed};
-ghost use Rattle.status_rewritten.specs.Rewritten.{slotShowable, entriesFormed, recordTested, pageAgain};
+ghost use Rattle.status_record.specs.Entries.{entryPlace, HasEntry, entryAt};
+ghost use Rattle.status_rewritten.specs.Rewritten.{slotMost, entriesFormed, recordTested, pageAgain};
+
+// The most that each byte of a slot's entry may be.
+fn slot_most(at: Slot) -> [u8; element_status::ENTRY]
+    ensures { λ r. ⌜ r ≡ slotMost at ⌝ }
+{
+    let kind = at.kind;
+    if at.overall {
+        element_status::MOST_OVERALL
+    } else {
+        element_status::most(kind)
+    }
+}
 
 // No field of entry i is out of range, or set where its slot shows none.
 fn entry_formed(fields: &[u8], at: Slot, i: u16) -> bool
     requires { ⌜ HasEntry (now fields) i ⌝ }
-    ensures { λ r. ⌜ r ≡ flagsFormed (now (fields .entry)) i && slotShowable at (entryAt (now (fields .entry)) i) ⌝ }
+    ensures { λ r. ⌜ r ≡ fit (slotMost at) (entryAt (now (fields .entry)) i) 16 ⌝ }
 {
-    let kind = at.kind;
-    let flags = status_record::flags_formed(fields, i);
-    let x = status_record::entry_at(fields, i);
-    if at.overall {
-        flags & x.is_code_alone()
-    } else {
-        flags & x.is_showable(kind)
-    }
+    element_status::fits(slot_most(at), status_record::entry_at(fields, i))
 }
 
 fn entries_formed(configuration: &[u8], fields: &[u8], n: u16) -> bool

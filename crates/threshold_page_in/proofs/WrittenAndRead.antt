@@ -13,7 +13,7 @@ use Rattle.bits.proofs.Logic.{by-case, pick-yes, pick-no}
 use Rattle.bits.proofs.Rows.{length-joined, bytes-there}
 use Rattle.element.specs.declared.types.Kind.{Kind}
 use Rattle.element.specs.declared.types.Kind.the-variants.{Cooling, Temperature, Voltage, Current}
-use Rattle.element_verdict.specs.Thresholds.{had, ordered}
+use Rattle.element.specs.Types.{had, ordered}
 use Rattle.refusals.specs.declared.Answer.the-variants.{Accepted}
 use Rattle.shelf.specs.Limits.{mostTypes, mostElements}
 use Rattle.shelf.specs.Elements.{thresholdsAt}

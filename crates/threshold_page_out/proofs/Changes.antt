@@ -13,8 +13,8 @@ use Rattle.bits.specs.Rows.{joined}
 use Rattle.bits.proofs.Logic.{by-case, pick-no}
 use Rattle.bits.proofs.Rows.{joined-four, joined-same}
 use Rattle.element.specs.Settings.{settingsFormed}
-use Rattle.element_verdict.specs.Thresholds.{had, ordered}
-use Rattle.element_verdict.proofs.ThresholdsTaken.{taken-none}
+use Rattle.element.specs.Types.{had, ordered}
+use Rattle.element.proofs.ThresholdsTaken.{taken-none}
 use Rattle.shelf.specs.Limits.{elementPlace, thresholdsPlace}
 use Rattle.shelf.specs.Types.{elementsOf, kindAt}
 use Rattle.shelf.specs.Elements.{settingsAt, thresholdsAt, readingAt, nominalAt}

@@ -8,7 +8,7 @@ use lib.ListN.{length}
 use Rattle.bits.specs.Choice.{pick}
 use Rattle.bits.specs.Places.{fourAt, foursPut}
 use Rattle.bits.proofs.FoursPut.{fours-next, fours-length, fours-joined}
-use Rattle.element_verdict.specs.Thresholds.{taken}
+use Rattle.element.specs.Thresholds.{taken}
 use Rattle.refusals.specs.declared.Refusal.{Refusal}
 use Rattle.refusals.specs.declared.Answer.{Answer}
 use Rattle.refusals.specs.declared.Answer.the-variants.{Accepted, Refused}

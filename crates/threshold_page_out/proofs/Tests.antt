@@ -7,7 +7,7 @@ use lib.Dec.{eqb}
 use lib.ListN.{getD}
 use Rattle.bits.specs.Choice.{allBelow}
 use Rattle.bits.proofs.Logic.{below-fails}
-use Rattle.element_verdict.specs.Thresholds.{ordered}
+use Rattle.element.specs.Types.{ordered}
 use Rattle.refusals.specs.declared.Refusal.{Refusal}
 use Rattle.refusals.specs.declared.Refusal.the-variants.{NotAllowed, NoSuchThreshold, ThresholdOrder}
 use Rattle.refusals.specs.declared.Answer.{Answer}

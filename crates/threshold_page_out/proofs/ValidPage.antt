@@ -7,8 +7,8 @@ use lib.Dec.{eqb}
 use lib.ListN.{getD}
 use Rattle.bits.specs.Places.{fourAt}
 use Rattle.bits.proofs.Logic.{below-at}
-use Rattle.element_verdict.specs.Thresholds.{had, ordered}
-use Rattle.element_verdict.proofs.ThresholdsTaken.{taken-had}
+use Rattle.element.specs.Types.{had, ordered}
+use Rattle.element.proofs.TypeThresholds.{taken-had}
 use Rattle.refusals.specs.declared.Refusal.the-variants.{NotAllowed, NoSuchThreshold, ThresholdOrder}
 use Rattle.refusals.specs.declared.Answer.{Answer}
 use Rattle.refusals.specs.declared.Answer.the-variants.{Accepted}

@@ -3,7 +3,7 @@ use mathlib.Core.List.{List}
 use Prim.Native.Nat.{ℕ, _*_}
 use Rattle.bits.specs.Places.{fourAt, foursPut}
 use Rattle.bits.specs.Rows.{joined}
-use Rattle.element_verdict.specs.Thresholds.{taken}
+use Rattle.element.specs.Thresholds.{taken}
 use Rattle.shelf.specs.Limits.{thresholdsPlace}
 use Rattle.shelf.specs.Types.{elementsOf}
 use Rattle.shelf.specs.Elements.{thresholdsAt}

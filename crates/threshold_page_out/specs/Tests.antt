@@ -5,7 +5,7 @@ use Prim.Native.Nat.{ℕ}
 use lib.Dec.{eqb}
 use lib.ListN.{getD}
 use Rattle.bits.specs.Choice.{allBelow}
-use Rattle.element_verdict.specs.Thresholds.{ordered}
+use Rattle.element.specs.Types.{ordered}
 use Rattle.refusals.specs.declared.Refusal.the-variants.{NotAllowed, NoSuchThreshold, ThresholdOrder}
 use Rattle.refusals.specs.declared.Answer.{Answer}
 use Rattle.refusals.specs.declared.Answer.the-variants.{Accepted}

@@ -7,7 +7,7 @@ use native.Mathlib.Numerals.{add-one}
 use Rattle.bits.specs.Choice.{pick, allBelow, refusedIn}
 use Rattle.bits.proofs.Logic.{fails}
 use Rattle.bits.proofs.Offence.{refused-at, refused-none}
-use Rattle.element_verdict.specs.Thresholds.{had, ordered}
+use Rattle.element.specs.Types.{had, ordered}
 use Rattle.page.specs.declared.slots.SlotRun.{SlotRun}
 use Rattle.page.specs.Slots.{slotRun}
 use Rattle.page.proofs.SlotWalk.{run-kind, run-overall}

@@ -15,7 +15,7 @@ use Rattle.threshold_rows.proofs.Loops.{row-refused, none-refused}
 use Rattle.threshold_rows.specs.Rows.{rowPlace, offence, allHad, allOrdered, rowsTested, rowAt, firstSet, rowOffending, rowHad, rowOrdered}
 use borrow.Author.Tests.{eqb-true, eq-eqb, ne-eqb}
 use Rattle.bits.proofs.Logic.{fails, below-at, below-all}
-use Rattle.element_verdict.specs.Thresholds.{had, ordered}
+use Rattle.element.specs.Types.{had, ordered}
 use Rattle.refusals.specs.declared.Answer.the-variants.{Accepted}
 use Rattle.refusals.proofs.AcceptedTests.{held}
 use Rattle.refusals.specs.declared.Answer.the-variants as answer

@@ -6,7 +6,7 @@ use lib.Dec.{eqb}
 use lib.ListN.{length, getD}
 use Rattle.bits.specs.Choice.{pick, allBelow, firstBelow, offenceIn}
 use Rattle.bits.specs.Places.{fourAt}
-use Rattle.element_verdict.specs.Thresholds.{had, ordered}
+use Rattle.element.specs.Types.{had, ordered}
 use Rattle.refusals.specs.declared.Refusal.the-variants.{NotAllowed, NoSuchThreshold, ThresholdOrder}
 use Rattle.refusals.specs.declared.Answer.{Answer}
 use Rattle.refusals.specs.declared.Answer.the-variants.{Accepted}

@@ -1,53 +1,68 @@
 // One element in a line: its code, its reading, the flags and limit bits that are set, and its thresholds.
-use element::settings::Settings;
+//
+// What an element shows is read off the entry of its status element, so no rule of showing stands here.
 use element::types::Kind;
-use element_status::Shown;
-use element_verdict::verdict::Verdict;
 use shelf::elements;
 ghost use Rattle.shelf.specs.Limits.{HasElement};
 
 pub fn show(shelf: &[u8], kind: Kind, j: u16)
     requires { ⌜ HasElement (now shelf) j ⌝ }
 {
-    let set = Settings::of(kind, elements::settings_at(shelf, j));
-    let reading = elements::reading_at(shelf, j);
+    let x = element_status::entry(kind, shelf_status::status_at(shelf, kind, j));
     let nominal = elements::nominal_at(shelf, j);
     let t = elements::thresholds_at(shelf, j);
-    let shown = Shown::by(kind, set, reading, nominal, t);
     tool_print::labelled(b"  element ", j as u64);
-    tool_print::labelled(b": code ", shown.verdict.code as u64);
+    tool_print::labelled(b": code ", x[0] as u64);
     tool_print::text(b", ");
     match kind {
-        Kind::Cooling => say_fan(shown),
-        Kind::Temperature => say_temperature(shown, t),
-        Kind::Voltage => say_rail(shown, nominal, t, b" V"),
-        Kind::Current => say_rail(shown, nominal, t, b" A"),
+        Kind::Cooling => say_fan(x),
+        Kind::Temperature => say_temperature(x, t),
+        Kind::Voltage => say_voltage(x, nominal, t),
+        Kind::Current => say_current(x, nominal, t),
     }
     tool_print::text(b"\n");
 }
 
-fn say_fan(x: Shown) {
-    tool_print::number(x.reading as u64 * 10);
+fn say_fan(x: [u8; element_status::ENTRY]) {
+    tool_print::number(number(x[5], x[6]) as u64 * 10);
     tool_print::text(b" rpm");
-    tool_print::flag(x.set.on, b"ON");
-    tool_print::flag(x.off, b"OFF");
-    tool_print::labelled(b", speed ", x.set.speed as u64);
-    say_flags(x.set);
+    tool_print::flag(x[8] == 1, b"ON");
+    tool_print::flag(x[9] == 1, b"OFF");
+    tool_print::labelled(b", speed ", x[10] as u64);
+    say_flags(x, x[7]);
 }
 
-fn say_temperature(x: Shown, t: [u8; 4]) {
-    say_reading_in_degrees(x.reading);
-    say_temperature_limits(x.verdict);
-    say_flags(x.set);
+fn say_temperature(x: [u8; element_status::ENTRY], t: [u8; 4]) {
+    say_reading_in_degrees(x[6] as u16);
+    tool_print::flag(x[7] == 1, b"OT FAILURE");
+    tool_print::flag(x[8] == 1, b"OT WARNING");
+    tool_print::flag(x[9] == 1, b"UT FAILURE");
+    tool_print::flag(x[10] == 1, b"UT WARNING");
+    say_flags(x, x[5]);
     say_degree_thresholds(t);
 }
 
-// A voltage or a current: of the second no UNDER is ever set.
-fn say_rail(x: Shown, nominal: u16, t: [u8; 4], unit: &[u8]) {
-    say_of_nominal(x.reading, nominal, unit);
-    say_rail_limits(x.verdict);
-    say_flags(x.set);
+fn say_voltage(x: [u8; element_status::ENTRY], nominal: u16, t: [u8; 4]) {
+    say_of_nominal(number(x[10], x[11]), nominal, b" V");
+    tool_print::flag(x[6] == 1, b"WARN OVER");
+    tool_print::flag(x[7] == 1, b"WARN UNDER");
+    tool_print::flag(x[8] == 1, b"CRIT OVER");
+    tool_print::flag(x[9] == 1, b"CRIT UNDER");
+    say_flags(x, x[5]);
     say_percent_thresholds(t);
+}
+
+fn say_current(x: [u8; element_status::ENTRY], nominal: u16, t: [u8; 4]) {
+    say_of_nominal(number(x[8], x[9]), nominal, b" A");
+    tool_print::flag(x[6] == 1, b"WARN OVER");
+    tool_print::flag(x[7] == 1, b"CRIT OVER");
+    say_flags(x, x[5]);
+    say_percent_thresholds(t);
+}
+
+// A number of two bytes of an entry.
+fn number(high: u8, low: u8) -> u16 {
+    high as u16 * 256 + low as u16
 }
 
 fn say_reading_in_degrees(reading: u16) {
@@ -67,26 +82,13 @@ fn say_of_nominal(reading: u16, nominal: u16, unit: &[u8]) {
     tool_print::text(unit);
 }
 
-fn say_flags(set: Settings) {
-    tool_print::flag(set.prdfail, b"PRDFAIL");
-    tool_print::flag(set.disabled, b"DISABLED");
-    tool_print::flag(set.swap, b"SWAP");
-    tool_print::flag(set.ident, b"IDENT");
-    tool_print::flag(set.fail, b"FAIL");
-}
-
-fn say_temperature_limits(v: Verdict) {
-    tool_print::flag(v.highcrit, b"OT FAILURE");
-    tool_print::flag(v.highwarn, b"OT WARNING");
-    tool_print::flag(v.lowcrit, b"UT FAILURE");
-    tool_print::flag(v.lowwarn, b"UT WARNING");
-}
-
-fn say_rail_limits(v: Verdict) {
-    tool_print::flag(v.highwarn, b"WARN OVER");
-    tool_print::flag(v.lowwarn, b"WARN UNDER");
-    tool_print::flag(v.highcrit, b"CRIT OVER");
-    tool_print::flag(v.lowcrit, b"CRIT UNDER");
+// The flags that every type here has; each shows IDENT first, and FAIL at a place of its own.
+fn say_flags(x: [u8; element_status::ENTRY], fail: u8) {
+    tool_print::flag(x[1] == 1, b"PRDFAIL");
+    tool_print::flag(x[2] == 1, b"DISABLED");
+    tool_print::flag(x[3] == 1, b"SWAP");
+    tool_print::flag(x[4] == 1, b"IDENT");
+    tool_print::flag(fail == 1, b"FAIL");
 }
 
 fn say_degree_thresholds(t: [u8; 4]) {

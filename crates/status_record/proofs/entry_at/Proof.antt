@@ -17,62 +17,68 @@ add-four-at c = search needs
 four-at-requires-2 : tie.Need-four-at-requires-2
 four-at-requires-2 c κs = search needs
 
-add-byte-at : tie.Need-add-byte-at
-add-byte-at c = search needs
-
-byte-at-requires : tie.Need-byte-at-requires
-byte-at-requires c κs = search needs
-
-add-big16-at : tie.Need-add-big16-at
-add-big16-at c = search needs
-
-big16-at-requires : tie.Need-big16-at-requires
-big16-at-requires c κs = search needs
-
 add-four-at-2 : tie.Need-add-four-at-2
 add-four-at-2 c = search needs
 
 four-at-requires-3 : tie.Need-four-at-requires-3
 four-at-requires-3 c κs = search needs
 
-array-read-t13 : tie.Need-array-read-t13
-array-read-t13 c = search needs
+add-four-at-3 : tie.Need-add-four-at-3
+add-four-at-3 c = search needs
 
-array-read-t17 : tie.Need-array-read-t17
-array-read-t17 c = search needs
+four-at-requires-4 : tie.Need-four-at-requires-4
+four-at-requires-4 c κs = search needs
+
+array-read-t12 : tie.Need-array-read-t12
+array-read-t12 c = search needs
+
+array-read-t15 : tie.Need-array-read-t15
+array-read-t15 c = search needs
+
+array-read-t18 : tie.Need-array-read-t18
+array-read-t18 c = search needs
 
 array-read-t21 : tie.Need-array-read-t21
 array-read-t21 c = search needs
 
-array-read-t25 : tie.Need-array-read-t25
-array-read-t25 c = search needs
+array-read-t24 : tie.Need-array-read-t24
+array-read-t24 c = search needs
 
-array-read-t29 : tie.Need-array-read-t29
-array-read-t29 c = search needs
+array-read-t27 : tie.Need-array-read-t27
+array-read-t27 c = search needs
+
+array-read-t30 : tie.Need-array-read-t30
+array-read-t30 c = search needs
 
 array-read-t33 : tie.Need-array-read-t33
 array-read-t33 c = search needs
 
-array-read-t38 : tie.Need-array-read-t38
-array-read-t38 c = search needs
+array-read-t36 : tie.Need-array-read-t36
+array-read-t36 c = search needs
 
-array-read-t41 : tie.Need-array-read-t41
-array-read-t41 c = search needs
+array-read-t39 : tie.Need-array-read-t39
+array-read-t39 c = search needs
+
+array-read-t42 : tie.Need-array-read-t42
+array-read-t42 c = search needs
 
 array-read-t45 : tie.Need-array-read-t45
 array-read-t45 c = search needs
 
-array-read-t49 : tie.Need-array-read-t49
-array-read-t49 c = search needs
+array-read-t48 : tie.Need-array-read-t48
+array-read-t48 c = search needs
 
-array-read-t53 : tie.Need-array-read-t53
-array-read-t53 c = search needs
+array-read-t51 : tie.Need-array-read-t51
+array-read-t51 c = search needs
 
-array-read-t58 : tie.Need-array-read-t58
-array-read-t58 c = search needs
+array-read-t54 : tie.Need-array-read-t54
+array-read-t54 c = search needs
+
+array-read-t57 : tie.Need-array-read-t57
+array-read-t57 c = search needs
 
 returns : tie.Need-returns
-returns c = let s = c .before .before .before .before .before .before .before .args in entry-read (now (s .fields)) (s .i) (c .before .before .before .before .before .entry-place .ensures) (c .before .before .before .before .four-at .ensures) (c .before .before .before .four-at2 .ensures) (c .four-at3 .ensures) (c .before .before .byte-at .ensures) (c .before .big16-at .ensures)
+returns c = let s = c .before .before .before .before .before .before .args in entry-read (now (s .fields)) (s .i) (c .before .before .before .before .entry-place .ensures) (c .before .before .before .four-at .ensures) (c .before .before .four-at2 .ensures) (c .before .four-at3 .ensures) (c .four-at4 .ensures)
 
 pub entry-at-spec : {M : Type 1} → statement M
 entry-at-spec =
@@ -82,22 +88,24 @@ entry-at-spec =
     four-at-requires
     add-four-at
     four-at-requires-2
-    add-byte-at
-    byte-at-requires
-    add-big16-at
-    big16-at-requires
     add-four-at-2
     four-at-requires-3
-    array-read-t13
-    array-read-t17
+    add-four-at-3
+    four-at-requires-4
+    array-read-t12
+    array-read-t15
+    array-read-t18
     array-read-t21
-    array-read-t25
-    array-read-t29
+    array-read-t24
+    array-read-t27
+    array-read-t30
     array-read-t33
-    array-read-t38
-    array-read-t41
+    array-read-t36
+    array-read-t39
+    array-read-t42
     array-read-t45
-    array-read-t49
-    array-read-t53
-    array-read-t58
+    array-read-t48
+    array-read-t51
+    array-read-t54
+    array-read-t57
     returns)

@@ -8,8 +8,17 @@ use Rattle.status_record.proofs.put_entry.Tie as tie
 entry-place-requires : tie.Need-entry-place-requires
 entry-place-requires c κs = search needs
 
-row0-requires : tie.Need-row0-requires
-row0-requires c κs = search needs
+array-read-t11 : tie.Need-array-read-t11
+array-read-t11 c = search needs
+
+array-read-t14 : tie.Need-array-read-t14
+array-read-t14 c = search needs
+
+array-read-t17 : tie.Need-array-read-t17
+array-read-t17 c = search needs
+
+array-read-t20 : tie.Need-array-read-t20
+array-read-t20 c = search needs
 
 put-four-requires : tie.Need-put-four-requires
 put-four-requires c κs = search needs
@@ -17,8 +26,17 @@ put-four-requires c κs = search needs
 add-put-four : tie.Need-add-put-four
 add-put-four c = search needs
 
-row1-requires : tie.Need-row1-requires
-row1-requires c κs = search needs
+array-read-t11-2 : tie.Need-array-read-t11-2
+array-read-t11-2 c = search needs
+
+array-read-t20-2 : tie.Need-array-read-t20-2
+array-read-t20-2 c = search needs
+
+array-read-t17-2 : tie.Need-array-read-t17-2
+array-read-t17-2 c = search needs
+
+array-read-t14-2 : tie.Need-array-read-t14-2
+array-read-t14-2 c = search needs
 
 put-four-requires-2 : tie.Need-put-four-requires-2
 put-four-requires-2 c κs = search needs
@@ -26,8 +44,17 @@ put-four-requires-2 c κs = search needs
 add-put-four-2 : tie.Need-add-put-four-2
 add-put-four-2 c = search needs
 
-row2-requires : tie.Need-row2-requires
-row2-requires c κs = search needs
+array-read-t14-3 : tie.Need-array-read-t14-3
+array-read-t14-3 c = search needs
+
+array-read-t17-3 : tie.Need-array-read-t17-3
+array-read-t17-3 c = search needs
+
+array-read-t20-3 : tie.Need-array-read-t20-3
+array-read-t20-3 c = search needs
+
+array-read-t11-3 : tie.Need-array-read-t11-3
+array-read-t11-3 c = search needs
 
 put-four-requires-3 : tie.Need-put-four-requires-3
 put-four-requires-3 c κs = search needs
@@ -35,8 +62,17 @@ put-four-requires-3 c κs = search needs
 add-put-four-3 : tie.Need-add-put-four-3
 add-put-four-3 c = search needs
 
-row3-requires : tie.Need-row3-requires
-row3-requires c κs = search needs
+array-read-t11-4 : tie.Need-array-read-t11-4
+array-read-t11-4 c = search needs
+
+array-read-t20-4 : tie.Need-array-read-t20-4
+array-read-t20-4 c = search needs
+
+array-read-t17-4 : tie.Need-array-read-t17-4
+array-read-t17-4 c = search needs
+
+array-read-t14-4 : tie.Need-array-read-t14-4
+array-read-t14-4 c = search needs
 
 put-four-requires-4 : tie.Need-put-four-requires-4
 put-four-requires-4 c κs = search needs
@@ -45,23 +81,35 @@ same-length : tie.Need-same-length
 same-length c = search needs
 
 returns : tie.Need-returns
-returns c = let s = c .before .before .before .before .before .before .before .before .before .before .before .before .before .before .before .before .before .before .before .before .before .before .args in entry-put (now (s .fields)) (s .i) (s .x) (c .before .before .before .before .before .before .before .before .before .before .before .before .before .before .before .before .before .before .before .before .entry-place .ensures) (c .before .before .before .before .before .before .before .before .before .before .before .before .before .before .before .before .before .before .row0 .ensures) (c .before .before .before .before .before .before .before .before .before .before .before .before .before .before .before .before .before .put-four .ensures) (c .before .before .before .before .before .before .before .before .before .before .before .before .before .row1 .ensures) (c .before .before .before .before .before .before .before .before .before .before .before .before .put-four2 .ensures) (c .before .before .before .before .before .before .before .before .row2 .ensures) (c .before .before .before .before .before .before .before .put-four3 .ensures) (c .before .before .before .row3 .ensures) (c .before .before .put-four4 .ensures)
+returns c = let a = c .before .before .before .before .before .before .before .before .before .before .before .before .before .before .before .before in let s = a .before .before .args in entry-put (now (s .fields)) (s .i) (s .t3) (a .entry-place .ensures) (c .before .before .before .before .before .before .before .before .before .before .before .before .before .before .put-four .ensures) (c .before .before .before .before .before .before .before .before .before .before .put-four2 .ensures) (c .before .before .before .before .before .before .put-four3 .ensures) (c .before .before .put-four4 .ensures)
 
 pub put-entry-spec : {M : Type 1} → statement M
 put-entry-spec =
     tie.close
     (tie.spec
     entry-place-requires
-    row0-requires
+    array-read-t11
+    array-read-t14
+    array-read-t17
+    array-read-t20
     put-four-requires
     add-put-four
-    row1-requires
+    array-read-t11-2
+    array-read-t20-2
+    array-read-t17-2
+    array-read-t14-2
     put-four-requires-2
     add-put-four-2
-    row2-requires
+    array-read-t14-3
+    array-read-t17-3
+    array-read-t20-3
+    array-read-t11-3
     put-four-requires-3
     add-put-four-3
-    row3-requires
+    array-read-t11-4
+    array-read-t20-4
+    array-read-t17-4
+    array-read-t14-4
     put-four-requires-4
     same-length
     returns)

@@ -11,7 +11,7 @@ use Rattle.bits.proofs.Logic.{below-fails, below-next}
 use Rattle.page.specs.Slots.{slotCarried}
 use Rattle.page.proofs.SlotWalk.{run-stands, slot-walked, walk-on}
 use Rattle.status_rewritten.specs.Rewritten.{entryFormed, entriesFormed}
-use Rattle.status_rewritten.proofs.Refusals.{entry-asked}
+use Rattle.status_rewritten.proofs.Refusals.{entry-tested}
 use Rattle.status_rewritten.proofs.entries_formed.Statement.{statement}
 use Rattle.status_rewritten.proofs.entries_formed.Tie as tie
 
@@ -38,7 +38,7 @@ entry-formed-requires c κs = search needs
 
 returns : tie.Need-returns Inv-loop μ-loop
 unfolding entriesFormed
-returns c = let s = c .before .before .before .before .before .before .before .before .before .args in sym (below-fails (entryFormed (now (s .configuration)) (now (s .fields))) (s .n) (c .before .before .before .before .before .loop .i) (c .before .before .before .before .loop-test .taken) (sym (entry-asked (now (s .configuration)) (now (s .fields)) (c .before .before .before .before .before .loop .i) (slot-walked (now (s .configuration)) (c .before .before .before .before .before .loop .i) (c .before .before .before .run-to .ensures) (c .before .before .slot-in .ensures)) (c .before .entry-formed .ensures)) ∙ not-true _ (c .if1 .taken)))
+returns c = let s = c .before .before .before .before .before .before .before .before .before .args in sym (below-fails (entryFormed (now (s .configuration)) (now (s .fields))) (s .n) (c .before .before .before .before .before .loop .i) (c .before .before .before .before .loop-test .taken) (sym (entry-tested (now (s .configuration)) (now (s .fields)) (c .before .before .before .before .before .loop .i) (slot-walked (now (s .configuration)) (c .before .before .before .before .before .loop .i) (c .before .before .before .run-to .ensures) (c .before .before .slot-in .ensures)) (c .before .entry-formed .ensures)) ∙ not-true _ (c .if1 .taken)))
 
 add-i : tie.Need-add-i Inv-loop μ-loop
 add-i c = omega arith
@@ -47,7 +47,7 @@ loop-less : tie.Need-loop-less Inv-loop μ-loop
 loop-less c = omega arith
 
 loop-again : tie.Need-loop-again Inv-loop μ-loop
-loop-again c = let s = c .before .before .before .before .before .before .before .before .before .args in let l = c .before .before .before .before .before .loop in (omega arith, walk-on (now (s .configuration)) (l .i) (c .before .before .before .run-to .ensures), below-next (entryFormed (now (s .configuration)) (now (s .fields))) (l .i) (l .inv .2) (sym (entry-asked (now (s .configuration)) (now (s .fields)) (c .before .before .before .before .before .loop .i) (slot-walked (now (s .configuration)) (c .before .before .before .before .before .loop .i) (c .before .before .before .run-to .ensures) (c .before .before .slot-in .ensures)) (c .before .entry-formed .ensures)) ∙ not-false _ (c .if1 .left)))
+loop-again c = let s = c .before .before .before .before .before .before .before .before .before .args in let l = c .before .before .before .before .before .loop in (omega arith, walk-on (now (s .configuration)) (l .i) (c .before .before .before .run-to .ensures), below-next (entryFormed (now (s .configuration)) (now (s .fields))) (l .i) (l .inv .2) (sym (entry-tested (now (s .configuration)) (now (s .fields)) (c .before .before .before .before .before .loop .i) (slot-walked (now (s .configuration)) (c .before .before .before .before .before .loop .i) (c .before .before .before .run-to .ensures) (c .before .before .slot-in .ensures)) (c .before .entry-formed .ensures)) ∙ not-false _ (c .if1 .left)))
 
 returns-2 : tie.Need-returns-2 Inv-loop μ-loop
 unfolding entriesFormed

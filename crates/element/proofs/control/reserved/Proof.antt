@@ -1,30 +1,56 @@
 -- `element::control::reserved` meets its contract. Assumes nothing.
-use mathlib.Core.Path.{_≡_, sym, ap, _∙_}
-use mathlib.Core.List.{[], _∷_}
-use Rattle.element.specs.declared.types.Kind.{Kind}
-use Rattle.element.specs.Settings.{secondNamed, fourthNamed}
-use Rattle.element.specs.Control.{reservedIn}
-use Rattle.element.proofs.TypeArms.{arms}
+use mathlib.Core.Path.{_∙_}
+use Rattle.element.proofs.Calls.{unnamed-is}
+use Rattle.element.proofs.StoredSettings.{reserved-unnamed}
 use borrow.Author.Needs.{needs}
 use Rattle.element.proofs.control.reserved.Statement.{statement}
 use Rattle.element.proofs.control.reserved.Tie as tie
 
-enum-told : tie.Need-enum-told
-enum-told c = search needs
+of-requires : tie.Need-of-requires
+of-requires c κs = search needs
 
-fan-reserved-requires : tie.Need-fan-reserved-requires
-fan-reserved-requires c κs = search needs
+array-read-first-of : tie.Need-array-read-first-of
+array-read-first-of c = search needs
 
-sensor-reserved-requires : tie.Need-sensor-reserved-requires
-sensor-reserved-requires c κs = search needs
+array-read-first-of-2 : tie.Need-array-read-first-of-2
+array-read-first-of-2 c = search needs
+
+array-read-first-of-3 : tie.Need-array-read-first-of-3
+array-read-first-of-3 c = search needs
+
+array-read-first-of-4 : tie.Need-array-read-first-of-4
+array-read-first-of-4 c = search needs
+
+array-read-first-of-5 : tie.Need-array-read-first-of-5
+array-read-first-of-5 c = search needs
+
+array-read-first-of-6 : tie.Need-array-read-first-of-6
+array-read-first-of-6 c = search needs
+
+array-read-first-of-7 : tie.Need-array-read-first-of-7
+array-read-first-of-7 c = search needs
+
+array-read-first-of-8 : tie.Need-array-read-first-of-8
+array-read-first-of-8 c = search needs
+
+first-of-requires : tie.Need-first-of-requires
+first-of-requires c κs = search needs
 
 returns : tie.Need-returns
-returns c = c .fan-reserved .ensures ∙ sym (ap (λ (k : Kind). reservedIn k (c .before .before .before .args .e)) (c .before .enum-told .given .1))
-
-returns-2 : tie.Need-returns-2
-unfolding secondNamed fourthNamed
-returns-2 c = let s = c .before .before .args in let e = c .sensor-reserved .ensures in arms (1 ∷ 2 ∷ 3 ∷ []) (λ k. c .sensor-reserved .result ≡ reservedIn k (s .e)) tt e e e (s .kind) (c .before .match .keys2)
+returns c = let s = c .before .before .before .before .before .args in c .first-of .ensures ∙ unnamed-is (s .kind) (c .before .before .before .before .of .ensures) (s .t2) ∙ reserved-unnamed (s .kind) (s .t2)
 
 pub reserved-spec : {M : Type 1} → statement M
 reserved-spec =
-    tie.close (tie.spec enum-told fan-reserved-requires sensor-reserved-requires returns returns-2)
+    tie.close
+    (tie.spec
+    of-requires
+    array-read-first-of
+    array-read-first-of-2
+    array-read-first-of-3
+    array-read-first-of-4
+    array-read-first-of-5
+    array-read-first-of-6
+    array-read-first-of-7
+    array-read-first-of-8
+    first-of-requires
+    returns)

@@ -3,7 +3,7 @@ use mathlib.Core.Path.{_≡_, refl}
 use mathlib.Core.Bool.{true}
 use mathlib.Core.List.{[], _∷_}
 use Rattle.element.proofs.TypeArms.{arms}
-use Rattle.element_verdict.specs.Thresholds.{had}
+use Rattle.element.specs.Types.{had}
 use borrow.Author.Needs.{needs}
 use Rattle.element_verdict.proofs.thresholds.are_had.Statement.{statement}
 use Rattle.element_verdict.proofs.thresholds.are_had.Tie as tie

@@ -2,7 +2,7 @@
 use mathlib.Core.Path.{_≡_}
 use mathlib.Core.List.{[], _∷_}
 use Rattle.element.proofs.TypeArms.{arms}
-use Rattle.element_verdict.specs.Thresholds.{ordered}
+use Rattle.element.specs.Types.{ordered}
 use borrow.Author.Needs.{needs}
 use Rattle.element_verdict.proofs.thresholds.are_ordered.Statement.{statement}
 use Rattle.element_verdict.proofs.thresholds.are_ordered.Tie as tie

@@ -1,5 +1,5 @@
 -- `element_verdict::thresholds::taken` meets its contract. Assumes nothing.
-use Rattle.element_verdict.specs.Thresholds.{taken}
+use Rattle.element.specs.Thresholds.{taken}
 use borrow.Author.Needs.{needs}
 use Rattle.element_verdict.proofs.thresholds.taken.Statement.{statement}
 use Rattle.element_verdict.proofs.thresholds.taken.Tie as tie

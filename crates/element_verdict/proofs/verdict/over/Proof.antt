@@ -1,7 +1,7 @@
 -- `element_verdict::verdict::over` meets its contract. Assumes nothing.
 use Prim.Native.Nat.{_*_}
 use Rattle.element_verdict.proofs.SignedLimits.{scaled, over-moved}
-use Rattle.element_verdict.specs.Verdict.{over}
+use Rattle.element.specs.Verdict.{over}
 use native.Mathlib.Omega.{arith}
 use borrow.Author.Needs.{needs}
 use Rattle.element_verdict.proofs.verdict.over.Statement.{statement}

@@ -1,7 +1,7 @@
 -- `element_verdict::verdict::under` meets its contract. Assumes nothing.
 use Prim.Native.Nat.{_*_}
 use Rattle.element_verdict.proofs.SignedLimits.{scaled, under-moved}
-use Rattle.element_verdict.specs.Verdict.{under}
+use Rattle.element.specs.Verdict.{under}
 use native.Mathlib.Omega.{arith}
 use borrow.Author.Needs.{needs}
 use Rattle.element_verdict.proofs.verdict.under.Statement.{statement}

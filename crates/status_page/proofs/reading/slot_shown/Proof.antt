@@ -17,14 +17,14 @@ array-read-code-alone c = search needs
 code-alone-requires : tie.Need-code-alone-requires
 code-alone-requires c κs = search needs
 
-of-requires : tie.Need-of-requires
-of-requires c κs = search needs
+entry-requires : tie.Need-entry-requires
+entry-requires c κs = search needs
 
 returns : tie.Need-returns
 returns c = let s = c .before .before .before .before .before .args in shows-overall (now (s .page)) (s .i) (s .at) (c .before .before .before .slot-place .ensures) (c .before .before .four-at .ensures) (c .before .if1 .taken) (c .code-alone .ensures)
 
 returns-2 : tie.Need-returns-2
-returns-2 c = let s = c .before .before .before .before .before .args in shows-element (now (s .page)) (s .i) (s .at) (c .before .before .before .slot-place .ensures) (c .before .before .four-at .ensures) (c .before .if1 .left) (c .of .ensures)
+returns-2 c = let s = c .before .before .before .before .before .args in shows-element (now (s .page)) (s .i) (s .at) (c .before .before .before .slot-place .ensures) (c .before .before .four-at .ensures) (c .before .if1 .left) (c .entry .ensures)
 
 pub slot-shown-spec : {M : Type 1} → statement M
 slot-shown-spec =
@@ -34,6 +34,6 @@ slot-shown-spec =
     four-at-requires
     array-read-code-alone
     code-alone-requires
-    of-requires
+    entry-requires
     returns
     returns-2)

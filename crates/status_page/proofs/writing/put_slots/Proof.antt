@@ -4,21 +4,20 @@ use Prim.Native.Nat.{_-_, _≤_}
 use native.Mathlib.Omega.{arith}
 use denote.Ref.{now}
 use borrow.Author.Needs.{needs}
-use Rattle.shelf_formed.proofs.ElementTypes.{front-formed}
 use Rattle.page.specs.Slots.{slotPlace, slotsPut, slotCarried}
+use Rattle.shelf_formed.proofs.ElementTypes.{front-formed}
 use Rattle.page.proofs.SlotBounds.{shelf-there}
 use Rattle.page.proofs.ElementSlots.{slot-has}
-use Rattle.page.proofs.SlotWalk.{run-stands, slot-walked, walk-on}
+use Rattle.page.proofs.SlotWalk.{walk-on, run-stands, slot-walked}
 use Rattle.bits.proofs.FoursPut.{fours-next, fours-length}
-use Rattle.shelf_status.proofs.WorstCode.{shown-is}
-use Rattle.shelf_status.specs.ShelfStatus.{shownIn}
 use Rattle.status_page.specs.Page.{slotRow}
-use Rattle.status_page.proofs.Loops.{row-is}
+use Rattle.shelf_status.specs.ShelfStatus.{shownIn}
+use Rattle.status_page.proofs.Loops.{shelf-row}
 use Rattle.status_page.proofs.writing.put_slots.Statement.{statement}
 use Rattle.status_page.proofs.writing.put_slots.Tie as tie
 
 abbrev Inv-loop : tie.InvT-loop
-Inv-loop shelf out₀ n run₀ i₀ out run i = (i ≤ n) × (run ≡ slotCarried shelf i) × (out ≡ slotsPut (slotRow shelf (shownIn shelf)) out₀ i) × (n ≤ 65535)
+Inv-loop shelf out₀ n run₀ i₀ out run i = (i ≤ n) × (run ≡ slotCarried shelf i) × (out ≡ slotsPut (slotRow shelf (shownIn shelf)) out₀ i)
 
 abbrev μ-loop : tie.MeasureT-loop
 μ-loop shelf out₀ n run₀ i₀ out run i = n - i
@@ -27,7 +26,7 @@ first-run-requires : tie.Need-first-run-requires Inv-loop μ-loop
 first-run-requires c κs = search needs
 
 loop-holds : tie.Need-loop-holds Inv-loop μ-loop
-loop-holds c = (omega arith, c .first-run .ensures, refl, omega arith)
+loop-holds c = (omega arith, c .first-run .ensures, refl)
 
 run-to-requires : tie.Need-run-to-requires Inv-loop μ-loop
 run-to-requires c κs = let q = c .before .before .before .before .before in (shelf-there (now (q .args .shelf)) (q .pre .0 .0), (omega (arith, q .pre .1, c .loop-test .taken), c .before .loop .inv .1))
@@ -35,26 +34,23 @@ run-to-requires c κs = let q = c .before .before .before .before .before in (sh
 slot-in-requires : tie.Need-slot-in-requires Inv-loop μ-loop
 slot-in-requires c κs = let q = c .before .before .before .before .before .before in let s = now (q .args .shelf) in run-stands s (front-formed s (q .pre .0 .0)) (c .before .before .loop .i) (omega (arith, q .pre .1, c .before .loop-test .taken)) (c .run-to .ensures)
 
-shown-in-requires : tie.Need-shown-in-requires Inv-loop μ-loop
-shown-in-requires c κs = let q = c .before .before .before .before .before .before .before in let s = now (q .args .shelf) in let l = c .before .before .before .loop in slot-has s (q .pre .0 .0) (l .i) (omega (arith, q .pre .1, c .before .before .loop-test .taken)) (slot-walked s (l .i) (c .before .run-to .ensures) (c .slot-in .ensures))
-
-slot-bytes-requires : tie.Need-slot-bytes-requires Inv-loop μ-loop
-slot-bytes-requires c κs = search needs
-
 slot-place-requires : tie.Need-slot-place-requires Inv-loop μ-loop
 slot-place-requires c κs = search needs
 
+slot-row-requires : tie.Need-slot-row-requires Inv-loop μ-loop
+slot-row-requires c κs = let q = c .before .before .before .before .before .before .before .before .before in let s = now (q .args .shelf) in let l = c .before .before .before .before .before .loop in slot-has s (q .pre .0 .0) (l .i) (omega (arith, q .pre .1, c .before .before .before .before .loop-test .taken)) (slot-walked s (l .i) (c .before .before .before .run-to .ensures) (c .before .before .slot-in .ensures))
+
 put-four-requires : tie.Need-put-four-requires Inv-loop μ-loop
-put-four-requires c κs = let q = c .before .before .before .before .before .before .before .before .before .before .before in let s = now (q .args .shelf) in let l = c .before .before .before .before .before .before .before .loop in omega (arith, c .slot-place .ensures, q .pre .0 .1, q .pre .1, c .before .before .before .before .before .before .loop-test .taken, fours-length slotPlace (slotRow s (shownIn s)) (now (q .args .out)) (l .i) (l .inv .2))
+put-four-requires c κs = let q = c .before .before .before .before .before .before .before .before .before .before in let l = c .before .before .before .before .before .before .loop in omega (arith, c .before .slot-place .ensures, q .pre .0 .1, q .pre .1, c .before .before .before .before .before .loop-test .taken, fours-length slotPlace (slotRow (now (q .args .shelf)) (shownIn (now (q .args .shelf)))) (now (q .args .out)) (l .i) (l .inv .2))
 
 add-i : tie.Need-add-i Inv-loop μ-loop
-add-i c = omega (arith, c .before .before .before .before .before .before .before .before .before .before .loop .inv .3, c .before .before .before .before .before .before .before .before .before .loop-test .taken)
+add-i c = omega arith
 
 loop-less : tie.Need-loop-less Inv-loop μ-loop
 loop-less c = omega arith
 
 loop-again : tie.Need-loop-again Inv-loop μ-loop
-loop-again c = let s = c .before .before .before .before .before .before .before .before .before .before .before .before .before .before .args in let l = c .before .before .before .before .before .before .before .before .before .before .loop in let r = c .before .before .before .before .before .before .before .before .run-to .ensures in let q = slot-walked (now (s .shelf)) (l .i) r (c .before .before .before .before .before .before .before .slot-in .ensures) in (omega (arith, c .before .before .before .before .before .before .before .before .before .loop-test .taken), walk-on (now (s .shelf)) (l .i) r, fours-next slotPlace (slotRow (now (s .shelf)) (shownIn (now (s .shelf)))) (now (s .out)) (l .i) (l .inv .2) (c .before .before .before .slot-place .ensures) (row-is (now (s .shelf)) (shownIn (now (s .shelf))) (l .i) q (shown-is (now (s .shelf)) (l .i) q (c .before .before .before .before .before .before .shown-in .ensures)) (c .before .before .before .before .before .slot-bytes .ensures)) (c .before .before .put-four .ensures), l .inv .3)
+loop-again c = let s = c .before .before .before .before .before .before .before .before .before .before .before .before .before .args in let l = c .before .before .before .before .before .before .before .before .before .loop in let r = c .before .before .before .before .before .before .before .run-to .ensures in (omega (arith, c .before .before .before .before .before .before .before .before .loop-test .taken), walk-on (now (s .shelf)) (l .i) r, fours-next slotPlace (slotRow (now (s .shelf)) (shownIn (now (s .shelf)))) (now (s .out)) (l .i) (l .inv .2) (c .before .before .before .before .slot-place .ensures) (shelf-row (now (s .shelf)) (l .i) (slot-walked (now (s .shelf)) (l .i) r (c .before .before .before .before .before .before .slot-in .ensures)) (c .before .before .before .slot-row .ensures)) (c .before .before .put-four .ensures))
 
 same-length : tie.Need-same-length Inv-loop μ-loop
 same-length c = let s = c .before .before .before .before .before .args in fours-length slotPlace (slotRow (now (s .shelf)) (shownIn (now (s .shelf)))) (now (s .out)) (c .before .loop .i) (c .before .loop .inv .2)
@@ -72,9 +68,8 @@ put-slots-spec =
     loop-holds
     run-to-requires
     slot-in-requires
-    shown-in-requires
-    slot-bytes-requires
     slot-place-requires
+    slot-row-requires
     put-four-requires
     add-i
     loop-less

@@ -6,6 +6,9 @@ use borrow.Author.Needs.{needs}
 use Rattle.status_page.proofs.writing.slot_bytes.Statement.{statement}
 use Rattle.status_page.proofs.writing.slot_bytes.Tie as tie
 
+array-read-t9 : tie.Need-array-read-t9
+array-read-t9 c = search needs
+
 bytes-requires : tie.Need-bytes-requires
 bytes-requires c κs = search needs
 
@@ -18,4 +21,4 @@ unfolding slotBytes
 returns-2 c = c .bytes .ensures ∙ sym (pick-no _ _ _ (c .before .if1 .left))
 
 pub slot-bytes-spec : {M : Type 1} → statement M
-slot-bytes-spec = tie.close (tie.spec bytes-requires returns returns-2)
+slot-bytes-spec = tie.close (tie.spec array-read-t9 bytes-requires returns returns-2)

@@ -2,7 +2,7 @@
 use mathlib.Core.Path.{sym, ap, _∙_}
 use Rattle.bits.proofs.Logic.{pick-yes, pick-no}
 use Rattle.element.specs.Settings.{settingsOf}
-use Rattle.element.specs.Control.{selected, asking, unselected, controlOf}
+use Rattle.element.specs.Control.{selected, unselected, asking, controlOf}
 use borrow.Author.Needs.{needs}
 use Rattle.element.proofs.control.Control.of.Statement.{statement}
 use Rattle.element.proofs.control.Control.of.Tie as tie

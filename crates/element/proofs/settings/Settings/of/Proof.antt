@@ -1,28 +1,46 @@
 -- `element::settings::Settings::of` meets its contract. Assumes nothing.
-use mathlib.Core.Path.{_≡_}
-use mathlib.Core.List.{[], _∷_}
-use Rattle.element.proofs.TypeArms.{arms}
-use Rattle.element.specs.Settings.{settingsOf}
+use Rattle.element.proofs.Calls.{said-is}
 use borrow.Author.Needs.{needs}
 use Rattle.element.proofs.settings.Settings.of.Statement.{statement}
 use Rattle.element.proofs.settings.Settings.of.Tie as tie
 
-enum-told : tie.Need-enum-told
-enum-told c = search needs
+of-requires : tie.Need-of-requires
+of-requires c κs = search needs
 
-of-fan-requires : tie.Need-of-fan-requires
-of-fan-requires c κs = search needs
+array-read-t7 : tie.Need-array-read-t7
+array-read-t7 c = search needs
 
-of-sensor-requires : tie.Need-of-sensor-requires
-of-sensor-requires c κs = search needs
+array-read-t13 : tie.Need-array-read-t13
+array-read-t13 c = search needs
+
+array-read-t19 : tie.Need-array-read-t19
+array-read-t19 c = search needs
+
+array-read-t25 : tie.Need-array-read-t25
+array-read-t25 c = search needs
+
+array-read-t29 : tie.Need-array-read-t29
+array-read-t29 c = search needs
+
+array-read-t33 : tie.Need-array-read-t33
+array-read-t33 c = search needs
+
+array-read-t37 : tie.Need-array-read-t37
+array-read-t37 c = search needs
 
 returns : tie.Need-returns
-unfolding settingsOf
-returns c = rw (c .before .enum-told .given .1) (c .of-fan .ensures)
-
-returns-2 : tie.Need-returns-2
-unfolding settingsOf
-returns-2 c = let s = c .before .before .args in let h = c .of-sensor .ensures in arms (1 ∷ 2 ∷ 3 ∷ []) (λ k. c .of-sensor .result ≡ settingsOf k (s .e)) tt h h h (s .kind) (c .before .match .keys2)
+returns c = said-is (c .before .before .before .before .before .args .kind) (c .before .before .before .before .of .ensures) (c .before .before .before .before .before .args .t2)
 
 pub of-spec : {M : Type 1} → statement M
-of-spec = tie.close (tie.spec enum-told of-fan-requires of-sensor-requires returns returns-2)
+of-spec =
+    tie.close
+    (tie.spec
+    of-requires
+    array-read-t7
+    array-read-t13
+    array-read-t19
+    array-read-t25
+    array-read-t29
+    array-read-t33
+    array-read-t37
+    returns)

@@ -3,8 +3,8 @@ use mathlib.Core.Path.{_≡_, refl}
 use mathlib.Core.Bool.{_&&_}
 use mathlib.Core.List.{[], _∷_}
 use lib.Dec.{eqb, leb}
-use Rattle.element.proofs.TypeArms.{arms}
 use Rattle.element.specs.Types.{nominalAllowed}
+use Rattle.element.proofs.TypeArms.{arms}
 use Rattle.element.proofs.types.Kind.may_have_nominal.Statement.{statement}
 use Rattle.element.proofs.types.Kind.may_have_nominal.Tie as tie
 

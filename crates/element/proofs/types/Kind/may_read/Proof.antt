@@ -2,8 +2,8 @@
 use mathlib.Core.Path.{_≡_, refl}
 use mathlib.Core.Bool.{true}
 use mathlib.Core.List.{[], _∷_}
-use Rattle.element.proofs.TypeArms.{arms}
 use Rattle.element.specs.Types.{readingAllowed}
+use Rattle.element.proofs.TypeArms.{arms}
 use borrow.Author.Needs.{needs}
 use Rattle.element.proofs.types.Kind.may_read.Statement.{statement}
 use Rattle.element.proofs.types.Kind.may_read.Tie as tie

@@ -1,0 +1,149 @@
+-- Bytes 1 to 3 of a status element and the twelve bytes of a record say the same, each way round, under any layout whose bytes are whole.
+-- Assumes nothing.
+use mathlib.Core.Path.{_≡_, refl, sym, ap, subst, _∙_}
+use mathlib.Core.Bool.{true}
+use mathlib.Core.List.{List, [], _∷_, _++_, append-assoc, append-nil}
+use Prim.Native.Nat.{ℕ, _+_, _^_, _<_, _≤_}
+use native.Mathlib.Nat.{add-zero}
+use native.Mathlib.Omega.{arith}
+use lib.Dec.{eqb, leb}
+use lib.ListN.{length, getD, length-append}
+use borrow.Author.Tests.{eqb-true, le-leb}
+use Rattle.bits.specs.Choice.{allBelow}
+use Rattle.bits.specs.Bits.{within}
+use Rattle.bits.proofs.Logic.{below-at, below-all, implies, implied}
+use Rattle.element.specs.StatusLayout.{Piece, StatusLayout, size, count, fieldMask, mostIn, fieldsIn, byteFrom, padded, twelve, three, mostOf, holds}
+use Rattle.element.proofs.Pieces.{cutIn, AllLe, byte-small, fields-cut, byte-behind, cut-behind, byte-front, byte-cut, fields-count, pad-append, fields-le, append-le, padded-le, parts}
+
+-- the pieces of a byte: eight bits in all; no bit but those of fields gives the byte again, and fields make no other bit, as antt finds by
+-- computing it over every byte
+module _ (ps : List Piece) where
+  pub record Whole : Type 0 where
+    pub eight : size ps ≡ 8
+    pub again : allBelow (λ b. implies (within (fieldMask ps) b) (eqb (byteFrom ps (fieldsIn ps b) 0) b)) 256 ≡ true
+    pub clear : allBelow (λ b. within (fieldMask ps) (byteFrom ps (fieldsIn ps b) 0)) 256 ≡ true
+
+module _ (ps : List Piece) (h : Whole ps) where
+  small : (v : List ℕ) (i : ℕ) → byteFrom ps v i < 256
+  small v i = subst (λ (n : ℕ). byteFrom ps v i < 2 ^ n) (h .eight) (byte-small ps v i)
+
+  byte-again : (b : ℕ) → b < 256 → within (fieldMask ps) b ≡ true → byteFrom ps (fieldsIn ps b) 0 ≡ b
+  byte-again b l t =
+      eqb-true _ _
+      (implied (within (fieldMask ps) b) _ (below-at (λ b. implies (within (fieldMask ps) b) (eqb (byteFrom ps (fieldsIn ps b) 0) b)) 256 (h .again) b l) t)
+
+  -- a byte that is made of fields has no other bit
+  pub byte-clear : (v : List ℕ) (i : ℕ) → within (fieldMask ps) (byteFrom ps v i) ≡ true
+  byte-clear v i =
+      let e : byteFrom ps (fieldsIn ps (byteFrom ps v i)) 0 ≡ byteFrom ps v i = ap (λ (l : List ℕ). byteFrom ps l 0) (fields-cut ps v i) ∙ byte-cut ps v i in
+      ap (within (fieldMask ps)) (sym e) ∙ below-at (λ b. within (fieldMask ps) (byteFrom ps (fieldsIn ps b) 0)) 256 (h .clear) (byteFrom ps v i) (small v i)
+
+module _ (l : StatusLayout) where
+  pub record Lays : Type 0 where
+    pub second : Whole (l .second)
+    pub third : Whole (l .third)
+    pub fourth : Whole (l .fourth)
+    pub few : count (l .second) + (count (l .third) + count (l .fourth)) ≤ 12
+
+  abbrev pub allMost : List ℕ
+  allMost = mostIn (l .second) ++ (mostIn (l .third) ++ mostIn (l .fourth))
+
+-- twelve bytes are the fields, part by part, and zeros
+joined-three : (a b c y : List ℕ) → (a ++ (b ++ c)) ++ y ≡ a ++ (b ++ (c ++ y))
+joined-three a b c y = append-assoc a (b ++ c) y ∙ ap (λ (z : List ℕ). a ++ z) (append-assoc b c y)
+
+module _ (l : StatusLayout) (a b c y : List ℕ) (p : length a ≡ count (l .second)) (q : length b ≡ count (l .third)) where
+  abbrev v : List ℕ
+  v = a ++ (b ++ (c ++ y))
+
+  third-found : byteFrom (l .third) v (count (l .second)) ≡ byteFrom (l .third) (b ++ (c ++ y)) 0
+  third-found = ap (byteFrom (l .third) v) (sym p ∙ sym (add-zero (length a))) ∙ byte-behind (l .third) a (b ++ (c ++ y)) 0
+
+  fourth-found : byteFrom (l .fourth) v (count (l .second) + count (l .third)) ≡ byteFrom (l .fourth) (c ++ y) 0
+  fourth-found =
+      ap (byteFrom (l .fourth) v) (λ i. sym p i + sym q i)
+      ∙ byte-behind (l .fourth) a (b ++ (c ++ y)) (length b)
+      ∙ ap (byteFrom (l .fourth) (b ++ (c ++ y))) (sym (add-zero (length b)))
+      ∙ byte-behind (l .fourth) b (c ++ y) 0
+
+  third-cut : cutIn (l .third) v (count (l .second)) ≡ cutIn (l .third) (b ++ (c ++ y)) 0
+  third-cut = ap (cutIn (l .third) v) (sym p ∙ sym (add-zero (length a))) ∙ cut-behind (l .third) a (b ++ (c ++ y)) 0
+
+  fourth-cut : cutIn (l .fourth) v (count (l .second) + count (l .third)) ≡ cutIn (l .fourth) (c ++ y) 0
+  fourth-cut =
+      ap (cutIn (l .fourth) v) (λ i. sym p i + sym q i)
+      ∙ cut-behind (l .fourth) a (b ++ (c ++ y)) (length b)
+      ∙ ap (cutIn (l .fourth) (b ++ (c ++ y))) (sym (add-zero (length b)))
+      ∙ cut-behind (l .fourth) b (c ++ y) 0
+
+three-same : {a b c p q r : ℕ} → a ≡ p → b ≡ q → c ≡ r → _≡_ {A = List ℕ} (a ∷ b ∷ c ∷ []) (p ∷ q ∷ r ∷ [])
+three-same x y z = λ i. x i ∷ y i ∷ z i ∷ []
+
+-- three bytes whose fields stand behind a head of four
+abbrev pub ofTwelve : StatusLayout → List ℕ → List ℕ
+ofTwelve l v =
+    byteFrom (l .second) v 0 ∷ byteFrom (l .third) v (count (l .second)) ∷ byteFrom (l .fourth) v (count (l .second) + count (l .third)) ∷ []
+
+pub three-behind : (l : StatusLayout) (x v : List ℕ) → three l (x ++ v) (length x) ≡ ofTwelve l v
+three-behind l x v =
+    three-same (ap (byteFrom (l .second) (x ++ v)) (sym (add-zero (length x))) ∙ byte-behind (l .second) x v 0) (byte-behind (l .third) x v (count (l .second)))
+    (byte-behind (l .fourth) x v (count (l .second) + count (l .third)))
+
+module _ (l : StatusLayout) (h : Lays l) where
+  -- three bytes without a reserved bit are those that show what they say
+  module _ (b c d : ℕ) where
+    abbrev x : List ℕ
+    x = fieldsIn (l .second) b
+
+    abbrev y : List ℕ
+    y = fieldsIn (l .third) c
+
+    abbrev z : List ℕ
+    z = fieldsIn (l .fourth) d
+
+    twelve-is : (r : List ℕ) × (twelve l b c d ≡ x ++ (y ++ (z ++ r)))
+    twelve-is =
+        let e : length (x ++ (y ++ z)) ≡ count (l .second) + (count (l .third) + count (l .fourth)) = length-append x (y ++ z) ∙ (λ i. fields-count (l .second) b i + (length-append y z ∙ (λ j. fields-count (l .third) c j + fields-count (l .fourth) d j)) i) in
+        let t = pad-append 12 (x ++ (y ++ z)) (rw e (h .few)) in
+        (t .0, t .1 ∙ joined-three x y z (t .0))
+
+    pub bytes-again : b < 256 → c < 256 → d < 256 → within (fieldMask (l .second)) b ≡ true → within (fieldMask (l .third)) c ≡ true
+        → within (fieldMask (l .fourth)) d ≡ true → ofTwelve l (twelve l b c d) ≡ b ∷ c ∷ d ∷ []
+    bytes-again hb hc hd p q s =
+        let t = twelve-is in
+        let r = t .0 in
+        ap (ofTwelve l) (t .1)
+        ∙ three-same (byte-front (l .second) b (y ++ (z ++ r)) ∙ byte-again (l .second) (h .second) b hb p)
+        (third-found l x y z r (fields-count (l .second) b) (fields-count (l .third) c) ∙ byte-front (l .third) c (z ++ r) ∙ byte-again (l .third) (h .third) c hc q)
+        (fourth-found l x y z r (fields-count (l .second) b) (fields-count (l .third) c) ∙ byte-front (l .fourth) d r ∙ byte-again (l .fourth) (h .fourth) d hd s)
+
+    -- and what they say fits
+    pub twelve-fit : (i : ℕ) → getD (twelve l b c d) i 0 ≤ getD (mostOf l) i 0
+    twelve-fit =
+        padded-le 12 (x ++ (y ++ z)) (allMost l)
+        (append-le x _ (y ++ z) _ (fields-le (l .second) b) (append-le y _ z _ (fields-le (l .third) c) (fields-le (l .fourth) d)))
+
+  -- fields that fit are read back from the bytes that show them
+  pub twelve-back : (f : List ℕ) → AllLe f (allMost l)
+      → let v : List ℕ = padded 12 f in
+      twelve l (byteFrom (l .second) v 0) (byteFrom (l .third) v (count (l .second))) (byteFrom (l .fourth) v (count (l .second) + count (l .third))) ≡ v
+  twelve-back f m =
+      let p = parts (l .second) f (mostIn (l .third) ++ mostIn (l .fourth)) m in
+      let q = parts (l .third) (p .1) (mostIn (l .fourth)) (p .4) in
+      let s = parts (l .fourth) (q .1) [] (subst (AllLe (q .1)) (sym (append-nil (mostIn (l .fourth)))) (q .4)) in
+      let a = p .0 in
+      let b = q .0 in
+      let c = s .0 in
+      let n = nothing-left (s .1) (s .4) in
+      let e : f ≡ a ++ (b ++ c) = p .2 ∙ ap (λ (z : List ℕ). a ++ z) (q .2 ∙ ap (λ (z : List ℕ). b ++ z) (s .2 ∙ ap (λ (z : List ℕ). c ++ z) n ∙ append-nil c)) in
+      let w : length (a ++ (b ++ c)) ≤ 12 = rw (length-append a (b ++ c), length-append b c, p .3, q .3, s .3) (h .few) in
+      let t = pad-append 12 (a ++ (b ++ c)) w in
+      let v : padded 12 f ≡ a ++ (b ++ (c ++ t .0)) = ap (padded 12) e ∙ t .1 ∙ joined-three a b c (t .0) in
+      let x : fieldsIn (l .second) (byteFrom (l .second) (padded 12 f) 0) ≡ a = fields-cut (l .second) (padded 12 f) 0 ∙ ap (λ (z : List ℕ). cutIn (l .second) z 0) v ∙ p .5 (b ++ (c ++ t .0)) in
+      let y : fieldsIn (l .third) (byteFrom (l .third) (padded 12 f) (count (l .second))) ≡ b = fields-cut (l .third) (padded 12 f) _ ∙ ap (λ (z : List ℕ). cutIn (l .third) z (count (l .second))) v ∙ third-cut l a b c (t .0) (p .3) (q .3) ∙ q .5 (c ++ t .0) in
+      let z : fieldsIn (l .fourth) (byteFrom (l .fourth) (padded 12 f) (count (l .second) + count (l .third))) ≡ c = fields-cut (l .fourth) (padded 12 f) _ ∙ ap (λ (z : List ℕ). cutIn (l .fourth) z (count (l .second) + count (l .third))) v ∙ fourth-cut l a b c (t .0) (p .3) (q .3) ∙ s .5 (t .0) in
+      ap (padded 12) ((λ i. x i ++ (y i ++ z i)) ∙ sym e)
+    where
+      nothing-left : (r : List ℕ) → AllLe r [] → r ≡ []
+      nothing-left [] k = refl
+      nothing-left (n ∷ r) k = absurd k

@@ -1,0 +1,39 @@
+// Which bits of a control element a type names, beside those that all types have in byte 0.
+use crate::types::Kind;
+ghost use mathlib.Core.Path.{_≡_};
+ghost use Rattle.element.specs.Types.{layoutOf};
+
+// The flags in bytes 1 to 3, and the speed code in byte 3.
+pub struct Layout {
+    pub flags1: u8,
+    pub flags2: u8,
+    pub flags3: u8,
+    pub speed: u8,
+}
+
+impl Layout {
+    // IDENT; FAIL and ON; SPEED.
+    const FAN: Layout = Layout {
+        flags1: 0x80,
+        flags2: 0,
+        flags3: 0x60,
+        speed: 0x07,
+    };
+
+    // IDENT and FAIL.
+    const SENSOR: Layout = Layout {
+        flags1: 0xc0,
+        flags2: 0,
+        flags3: 0,
+        speed: 0,
+    };
+
+    pub fn of(kind: Kind) -> Layout
+        ensures { λ r. ⌜ r ≡ layoutOf kind ⌝ }
+    {
+        match kind {
+            Kind::Cooling => Layout::FAN,
+            Kind::Temperature | Kind::Voltage | Kind::Current => Layout::SENSOR,
+        }
+    }
+}

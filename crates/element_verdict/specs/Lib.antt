@@ -1,2 +1,0 @@
-pub mod Thresholds
-pub mod Verdict

@@ -1,0 +1,25 @@
+-- `shelf_status::verdict_at` meets its contract. Assumes nothing.
+use mathlib.Core.Path.{_∙_}
+use borrow.Author.Needs.{needs}
+use Rattle.shelf_status.proofs.verdict_at.Statement.{statement}
+use Rattle.shelf_status.proofs.verdict_at.Tie as tie
+
+reading-at-requires : tie.Need-reading-at-requires
+reading-at-requires c κs = search needs
+
+nominal-at-requires : tie.Need-nominal-at-requires
+nominal-at-requires c κs = search needs
+
+thresholds-at-requires : tie.Need-thresholds-at-requires
+thresholds-at-requires c κs = search needs
+
+of-requires : tie.Need-of-requires
+of-requires c κs = search needs
+
+returns : tie.Need-returns
+returns c = c .of .ensures ∙ rw (c .before .before .before .reading-at .ensures, c .before .before .nominal-at .ensures, c .before .thresholds-at .ensures)
+
+pub verdict-at-spec : {M : Type 1} → statement M
+verdict-at-spec =
+    tie.close
+    (tie.spec reading-at-requires nominal-at-requires thresholds-at-requires of-requires returns)

@@ -54,7 +54,16 @@ loop-less : tie.Need-loop-less Inv-loop μ-loop
 loop-less c = omega arith
 
 loop-again : tie.Need-loop-again Inv-loop μ-loop
-loop-again c = let s = c .before .before .before .before .before .before .before .before .before .before .before .before .before .before .args in let l = c .before .before .before .before .before .before .before .before .before .before .loop in let r = c .before .before .before .before .before .before .before .before .run-to .ensures in let q = slot-walked (now (s .shelf)) (l .i) r (c .before .before .before .before .before .before .before .slot-in .ensures) in (omega (arith, c .before .before .before .before .before .before .before .before .before .loop-test .taken), walk-on (now (s .shelf)) (l .i) r, fours-next slotPlace (slotRow (now (s .shelf)) (shownIn (now (s .shelf)))) (now (s .out)) (l .i) (l .inv .2) (c .before .before .before .slot-place .ensures) (row-is (now (s .shelf)) (shownIn (now (s .shelf))) (l .i) q (shown-is (now (s .shelf)) (l .i) q (c .before .before .before .before .before .before .shown-in .ensures)) (c .before .before .before .before .before .slot-bytes .ensures)) (c .before .before .put-four .ensures), l .inv .3)
+loop-again c =
+    let s = c .before .before .before .before .before .before .before .before .before .before .before .before .before .before .args in
+    let l = c .before .before .before .before .before .before .before .before .before .before .loop in
+    let r = c .before .before .before .before .before .before .before .before .run-to .ensures in
+    let q = slot-walked (now (s .shelf)) (l .i) r (c .before .before .before .before .before .before .before .slot-in .ensures) in (
+      omega (arith, c .before .before .before .before .before .before .before .before .before .loop-test .taken),
+      walk-on (now (s .shelf)) (l .i) r,
+      fours-next slotPlace (slotRow (now (s .shelf)) (shownIn (now (s .shelf)))) (now (s .out)) (l .i) (l .inv .2) (c .before .before .before .slot-place .ensures) (row-is (now (s .shelf)) (shownIn (now (s .shelf))) (l .i) q (shown-is (now (s .shelf)) (l .i) q (c .before .before .before .before .before .before .shown-in .ensures)) (c .before .before .before .before .before .slot-bytes .ensures)) (c .before .before .put-four .ensures),
+      l .inv .3,
+    )
 
 same-length : tie.Need-same-length Inv-loop μ-loop
 same-length c = let s = c .before .before .before .before .before .args in fours-length slotPlace (slotRow (now (s .shelf)) (shownIn (now (s .shelf)))) (now (s .out)) (c .before .loop .i) (c .before .loop .inv .2)

@@ -4,50 +4,35 @@ use mathlib.Core.Bool.{true, false, _&&_}
 use mathlib.Core.List.{List}
 use Prim.Native.Nat.{ℕ, _+_, _<_, _≤_}
 use native.Mathlib.Omega.{arith}
-use lib.Dec.{eqb, leb}
+use lib.Dec.{leb}
 use lib.ListN.{length, getD}
 use borrow.Author.Tests.{eqb-true, not-false}
 use Rattle.bits.proofs.Logic.{and-left, and-right, first-fails}
 use Rattle.element.specs.Types.{served}
-use Rattle.refusals.specs.declared.Refusal.the-variants.{PageTooShort, PageCode, PageLength, NotAllowed}
-use Rattle.refusals.specs.declared.Answer.{Answer}
 use Rattle.refusals.specs.declared.Answer.the-variants.{Accepted}
-use Rattle.refusals.specs.Outcomes.{unless}
-use Rattle.refusals.proofs.AcceptedTests.{held}
 use Rattle.shelf.specs.Limits.{mostTypes, mostElements, mostInType, mostText}
 use Rattle.page.specs.Header.{lengthSaid}
 use Rattle.configuration_page.specs.Page.{headerPlace}
 use Rattle.configuration_page.specs.Read.{typesOn, headerByte, totalBefore, textPlaceOn, neededLength, fixedOffends, headerOffends, textOffends, offends, firstOffence, configurationRead}
-use Rattle.configuration_page.proofs.Refusals.{fixed-at, header-at, text-at}
+use Rattle.configuration_page.proofs.Refusals.{fixed-at, header-at, text-at, read-parts}
 
 module _ (p : List ℕ) (a : configurationRead p ≡ Accepted) where
-  passed : (eqb (getD p 0 0) 0x01 ≡ true) × (lengthSaid p ≡ true) × (eqb (length p) (neededLength p) ≡ true) × (eqb (firstOffence p) (length p) ≡ true)
-  unfolding configurationRead
-  passed =
-      let r5 : Answer = unless (eqb (firstOffence p) (length p)) NotAllowed Accepted in
-      let r4 : Answer = unless (eqb (length p) (neededLength p)) PageLength r5 in
-      let r3 : Answer = unless (lengthSaid p) PageLength r4 in
-      let r2 : Answer = unless (eqb (getD p 0 0) 0x01) PageCode r3 in
-      let h1 = held (leb 4 (length p)) PageTooShort r2 a in
-      let h2 = held (eqb (getD p 0 0) 0x01) PageCode r3 (h1 .1) in
-      let h3 = held (lengthSaid p) PageLength r4 (h2 .1) in
-      let h4 = held (eqb (length p) (neededLength p)) PageLength r5 (h3 .1) in
-      let h5 = held (eqb (firstOffence p) (length p)) NotAllowed Accepted (h4 .1) in
-      (h2 .0, h3 .0, h4 .0, h5 .0)
+  passed : (getD p 0 0 ≡ 0x01) × (lengthSaid p ≡ true) × (length p ≡ neededLength p) × (firstOffence p ≡ length p)
+  passed = read-parts p a
 
   pub code-passed : getD p 0 0 ≡ 0x01
-  code-passed = eqb-true (getD p 0 0) 0x01 (passed .0)
+  code-passed = passed .0
 
   pub length-passed : lengthSaid p ≡ true
   length-passed = passed .1
 
   pub needed-passed : length p ≡ textPlaceOn p (typesOn p)
   unfolding neededLength
-  needed-passed = eqb-true (length p) (neededLength p) (passed .2)
+  needed-passed = passed .2
 
   fine : (k : ℕ) → k < length p → offends p k ≡ false
   unfolding firstOffence
-  fine k h = first-fails (offends p) (length p) k (rw (eqb-true (firstOffence p) (length p) (passed .3)) h)
+  fine k h = first-fails (offends p) (length p) k (rw (passed .3) h)
 
   pub headers-in : headerPlace (typesOn p) ≤ length p
   unfolding textPlaceOn

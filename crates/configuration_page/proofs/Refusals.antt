@@ -7,16 +7,26 @@ use Prim.Native.Nat.{ℕ, _+_, _-_, _/_, _%_, _<_, _≤_}
 use native.Mathlib.Omega.{arith}
 use lib.Dec.{eqb, leb}
 use lib.ListN.{length, getD, drop-of-length-le}
-use borrow.Author.Tests.{lt-ltb, le-ltb, ne-eqb, leb-false}
+use borrow.Author.Tests.{lt-ltb, le-ltb, le-leb, leb-false, eq-eqb, ne-eqb, eqb-true}
+use mir.Val.{Fits}
+use mir.Syntax.{w8, w32}
 use Rattle.bits.specs.Choice.{firstBelow}
+use Rattle.bits.specs.Numbers.{big}
+use Rattle.bits.specs.Places.{twoAt}
 use Rattle.bits.proofs.Logic.{pick-yes, pick-no}
-use Rattle.refusals.specs.declared.Refusal.the-variants.{PageTooShort, PageCode, PageLength, NotAllowed}
+use Rattle.refusals.specs.declared.Refusal.the-variants.{PageLength, NotAllowed}
+use Rattle.refusals.specs.declared.Refusal.{Refusal}
+use Rattle.refusals.specs.declared.Answer.{Answer}
 use Rattle.refusals.specs.declared.Answer.the-variants.{Accepted, Refused}
-use Rattle.refusals.specs.Outcomes.{recordAfter}
+use Rattle.refusals.specs.Outcomes.{unless, next, placed}
+use Rattle.refusals.proofs.AcceptedTests.{held, held-both}
+use Rattle.refusals.proofs.Stages.{stopped, gone-on}
 use Rattle.shelf.specs.Limits.{elementPlace}
-use Rattle.page.specs.Header.{lengthSaid}
+use Rattle.page.specs.Header.{lengthSaid, framed, lengthTested}
+use Rattle.page.proofs.HeaderTests.{frame-passed, length-passed, length-needed}
+use Rattle.page.proofs.HeaderBothWays.{frame-parts}
 use Rattle.configuration_page.specs.Page.{headerPlace}
-use Rattle.configuration_page.specs.Read.{typesOn, headerByte, textPlaceOn, neededLength, fixedOffends, headerOffends, textOffends, offends, firstOffence, configurationRead}
+use Rattle.configuration_page.specs.Read.{typesOn, headerByte, textPlaceOn, neededLength, fixedOffends, headerOffends, textOffends, offends, firstOffence, bytesTested, configurationRead}
 use Rattle.configuration_page.specs.Configuration.{configurationOf, configurationPut}
 use Rattle.configuration_page.proofs.RowsPut.{length-configuration, told-whole}
 
@@ -53,40 +63,75 @@ headers-needed : (p : List ℕ) → leb (headerPlace (typesOn p)) (length p) ≡
 unfolding neededLength textPlaceOn
 headers-needed p e = let l = leb-false (headerPlace (typesOn p)) (length p) e in ne-eqb (length p) (textPlaceOn p (typesOn p)) (λ q. omega arith)
 
+-- the length that the type list needs
+pub no-headers : (p : List ℕ) → leb (headerPlace (typesOn p)) (length p) ≡ false → Refused PageLength ≡ lengthTested p (neededLength p)
+unfolding lengthTested
+no-headers p e = rw (headers-needed p e)
+
+pub headers-there : (p : List ℕ) → length p ≡ neededLength p → headerPlace (typesOn p) ≤ length p
+unfolding neededLength textPlaceOn
+headers-there p e = omega arith
+
+-- a length that two bytes say
+pub length-small : (p : List ℕ) → ((i : ℕ) → Fits w8 (getD p i 0)) → lengthSaid p ≡ true → Fits w32 (length p)
+unfolding lengthSaid
+length-small p f e = record { fits = omega (arith, eqb-true (length p) (big (twoAt p 2) + 4) e, f 2 .fits, f 3 .fits) }
+
+-- the page's own tests
+module _ (p : List ℕ) {n k : ℕ} (e : length p ≡ n) (x : k ≡ firstBelow (offends p) n) where
+  pub byte-refused : (k ≡ n → ⊥) → Refused NotAllowed ≡ bytesTested p
+  unfolding bytesTested
+  byte-refused t = rw (ne-eqb (firstOffence p) (length p) (λ q. t (x ∙ found p e ∙ q ∙ e)))
+
+  pub bytes-passed : k ≡ n → Accepted ≡ bytesTested p
+  unfolding bytesTested
+  bytes-passed t = rw (eq-eqb (firstOffence p) (length p) (sym (found p e) ∙ sym x ∙ t ∙ sym e))
+
+-- all of them, one after the other
 module _ (p : List ℕ) where
-  pub too-short : leb 4 (length p) ≡ false → Refused PageTooShort ≡ configurationRead p
-  unfolding configurationRead
-  too-short e = rw e
+  abbrev rest : Answer
+  rest = next (lengthTested p (neededLength p)) (bytesTested p)
 
-  module _ (e1 : leb 4 (length p) ≡ true) where
-    pub other-code : eqb (getD p 0 0) 0x01 ≡ false → Refused PageCode ≡ configurationRead p
+  module _ {a : Answer} (f : a ≡ framed p 0x01) where
+    pub frame-refused : {r : Refusal} → a ≡ Refused r → a ≡ configurationRead p
     unfolding configurationRead
-    other-code e = rw (e1, e)
+    frame-refused u = stopped (framed p 0x01) rest f u
 
-    module _ (e2 : eqb (getD p 0 0) 0x01 ≡ true) where
-      pub other-length : lengthSaid p ≡ false → Refused PageLength ≡ configurationRead p
+    module _ (u : a ≡ Accepted) {b : Answer} (l : b ≡ lengthTested p (neededLength p)) where
+      pub length-refused : {r : Refusal} → b ≡ Refused r → b ≡ configurationRead p
       unfolding configurationRead
-      other-length e = rw (e1, e2, e)
+      length-refused v = gone-on (framed p 0x01) rest f u (stopped (lengthTested p (neededLength p)) (bytesTested p) l v)
 
-      module _ (e3 : lengthSaid p ≡ true) where
-        pub other-needed : eqb (length p) (neededLength p) ≡ false → Refused PageLength ≡ configurationRead p
+      module _ (v : b ≡ Accepted) where
+        -- what the page's own tests are given
+        pub length-known : (lengthSaid p ≡ true) × (length p ≡ neededLength p)
+        length-known = (frame-parts p 0x01 (sym f ∙ u) .1, length-needed p (neededLength p) (sym l ∙ v))
+
+        pub bytes-last : {d : Answer} → d ≡ bytesTested p → d ≡ configurationRead p
         unfolding configurationRead
-        other-needed e = rw (e1, e2, e3, e)
+        bytes-last e = gone-on (framed p 0x01) rest f u (gone-on (lengthTested p (neededLength p)) (bytesTested p) l v e)
 
-        pub no-headers : leb (headerPlace (typesOn p)) (length p) ≡ false → Refused PageLength ≡ configurationRead p
-        no-headers e = other-needed (headers-needed p e)
+  pub read-parts : configurationRead p ≡ Accepted
+      → (getD p 0 0 ≡ 0x01) × (lengthSaid p ≡ true) × (length p ≡ neededLength p) × (firstOffence p ≡ length p)
+  unfolding configurationRead bytesTested
+  read-parts e =
+      let t = eqb (firstOffence p) (length p) in
+      let r2 : Answer = unless t NotAllowed Accepted in
+      let h1 = held-both (framed p 0x01) (next (lengthTested p (neededLength p)) r2) e in
+      let h2 = held-both (lengthTested p (neededLength p)) r2 (h1 .1) in
+      let f = frame-parts p 0x01 (h1 .0) in
+      let o = eqb-true (firstOffence p) (length p) (held t NotAllowed Accepted (h2 .1) .0) in
+      (f .0, f .1, length-needed p (neededLength p) (h2 .0), o)
 
-        module _ (e4 : eqb (length p) (neededLength p) ≡ true) where
-          pub offended : eqb (firstOffence p) (length p) ≡ false → Refused NotAllowed ≡ configurationRead p
-          unfolding configurationRead
-          offended e = rw (e1, e2, e3, e4, e)
+  pub parts-read : 4 ≤ length p → getD p 0 0 ≡ 0x01 → lengthSaid p ≡ true → length p ≡ neededLength p → firstOffence p ≡ length p
+      → configurationRead p ≡ Accepted
+  unfolding configurationRead bytesTested
+  parts-read h c s l o =
+      let f = frame-passed p 0x01 (le-leb 4 (length p) h) (eq-eqb (getD p 0 0) 0x01 c) s in
+      rw (← f, ← length-passed p (neededLength p) l, eq-eqb (firstOffence p) (length p) o)
 
-          pub all-passed : eqb (firstOffence p) (length p) ≡ true → Accepted ≡ configurationRead p
-          unfolding configurationRead
-          all-passed e = rw (e1, e2, e3, e4, e)
-
--- what reading leaves in a configuration's place
-pub told : (p c : List ℕ) {o : List ℕ} → length c ≡ elementPlace 0 → Accepted ≡ configurationRead p → o ≡ configurationPut p c
-    → (Accepted ≡ configurationRead p) × (o ≡ recordAfter Accepted (configurationOf p) c)
-told p c h e q =
-    (e, q ∙ told-whole p c h ∙ sym (append-nil (configurationOf p)) ∙ ap (λ (r : List ℕ). configurationOf p ++ r) (sym (drop-of-length-le c {i = length (configurationOf p)} (omega (arith, length-configuration p)))))
+-- what the reader hands over
+pub record-placed : (p c : List ℕ) {o : List ℕ} → length c ≡ elementPlace 0 → o ≡ configurationPut p c → o ≡ placed (configurationOf p) c
+record-placed p c h q =
+    let l = drop-of-length-le c {i = length (configurationOf p)} (omega (arith, length-configuration p)) in
+    q ∙ told-whole p c h ∙ sym (append-nil (configurationOf p)) ∙ ap (λ (r : List ℕ). configurationOf p ++ r) (sym l)

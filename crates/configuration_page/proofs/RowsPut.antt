@@ -4,20 +4,14 @@ use mathlib.Core.List.{List, [], _∷_, _++_, append-assoc, append-nil}
 use Prim.Native.Nat.{ℕ, zero, suc, _+_, _*_, _<_, _≤_, _-_, _/_, _%_}
 use native.Mathlib.Nat.{add-zero}
 use native.Mathlib.Omega.{arith}
-use mathlib.Core.Bool.{Bool, true, false}
-use lib.Dec.{leb}
-use borrow.Author.Tests.{leb-true}
+use mathlib.Core.Bool.{true}
 use lib.ListN.{length, getD, drop, length-append, drop-of-length-le}
-use Rattle.bits.specs.Choice.{pick, sumBelow}
+use Rattle.bits.specs.Choice.{sumBelow}
 use Rattle.bits.specs.Numbers.{bytes}
 use Rattle.bits.specs.Places.{fourAt, putFour}
 use Rattle.bits.specs.Rows.{joined, bytesAt, putBytes}
 use Rattle.bits.proofs.Rows.{length-joined, put-next, bytes-next, length-bytes-at}
-use Rattle.refusals.specs.declared.Refusal.{Refusal}
-use Rattle.refusals.specs.declared.Refusal.the-variants.{OutputTooShort}
-use Rattle.refusals.specs.declared.Written.{Written}
-use Rattle.refusals.specs.declared.Written.the-variants as written
-use Rattle.refusals.specs.Outcomes.{fitted, outAfter}
+use Rattle.refusals.specs.Outcomes.{placed}
 use Rattle.shelf.specs.Limits.{mostTypes, mostText, typeSize, typePlace, textPlace, elementPlace}
 use Rattle.shelf.specs.Types.{typesOf, typeCode, typeCount, textLength}
 use Rattle.shelf_formed.specs.Formed.{frontFormed}
@@ -39,15 +33,6 @@ module _ (s : List ℕ) (w : frontFormed s ≡ true) where
 pub text-in : (s : List ℕ) (t : ℕ) → t < typesOf s → textStart s t + textLength s t ≤ configurationLength s
 unfolding configurationLength textStart
 text-in s t h = omega (arith, sum-part (textLength s) (typesOf s) t h)
-
--- a page that is written has room
-room : (n m : ℕ) {b : ℕ} → fitted n m ≡ written.Bytes b → (n ≤ m) × (fitted n m ≡ written.Bytes n)
-room n m e = go (leb n m) refl e
-  where
-    go : (t : Bool) {b : ℕ} → leb n m ≡ t → pick t (written.Bytes n) (written.Refused OutputTooShort) ≡ written.Bytes b
-        → (n ≤ m) × (pick t (written.Bytes n) (written.Refused OutputTooShort) ≡ written.Bytes n)
-    go true q e = (leb-true n m q, refl)
-    go false q e = let z : _≡_ {A = ℕ} 0 1 = cc in absurd (omega arith)
 
 pub length-text : (s : List ℕ) (t : ℕ) → length (textOf s t) ≡ textLength s t
 unfolding textOf
@@ -131,34 +116,21 @@ page-fits s out h =
     ∙ ap (λ (o : List ℕ). textsPut s o n) (headers-fit s out f (length-fixed s (configurationLength s - 4)) n a)
     ∙ texts-fit s out (f ++ joined (typeHeader s) n) lg n h
 
--- the page that is written has room for all its parts
-module _ (s out : List ℕ) {n b : ℕ} {w : Written} (en : n ≡ configurationLength s) (ef : w ≡ fitted n (length out)) (eb : w ≡ written.Bytes b) where
-  pub has-room : configurationLength s ≤ length out
-  has-room = rw en at (room n (length out) (sym ef ∙ eb) .0)
-
-  pub has-headers : headerPlace (typesOf s) ≤ length out
-  unfolding configurationLength
-  has-headers = omega (arith, has-room, headers-first s (typesOf s))
+-- an output buffer that holds the page has room for all its headers
+pub has-headers : (s out : List ℕ) {n : ℕ} → n ≡ configurationLength s → n ≤ length out → headerPlace (typesOf s) ≤ length out
+unfolding configurationLength
+has-headers s out en l = omega (arith, headers-first s (typesOf s))
 
 -- there is a header
 pub not-empty : (s : List ℕ) {n : ℕ} → n ≡ configurationLength s → 4 ≤ n
 unfolding configurationLength
 not-empty s e = omega (arith, headers-first s (typesOf s))
 
--- the answer of a write, and the output buffer
-pub wrote : (s out : List ℕ) {n b k : ℕ} {w : Written} {o1 o2 o3 : List ℕ} → n ≡ configurationLength s → w ≡ fitted n (length out) → w ≡ written.Bytes b
-    → k ≡ typesOf s → o1 ≡ fixedPut s (n - 4) out → o2 ≡ headersPut s o1 k → o3 ≡ textsPut s o2 k
-    → (w ≡ fitted (length (configurationPage s)) (length out)) × (o3 ≡ outAfter w (configurationPage s) out)
-wrote s out {n} en ef eb ek e1 e2 e3 =
-    let r = room n (length out) (sym ef ∙ eb) in (
-      ef ∙ ap (λ (m : ℕ). fitted m (length out)) (en ∙ sym (length-page s)),
-      e3 ∙ rw (e2, e1, ek, ef ∙ r .1, en) (page-fits s out (rw en at (r .0))),
-    )
-
-pub not-wrote : (s out : List ℕ) {n : ℕ} {w : Written} {r : Refusal} → n ≡ configurationLength s → w ≡ fitted n (length out) → w ≡ written.Refused r
-    → (w ≡ fitted (length (configurationPage s)) (length out)) × (out ≡ outAfter w (configurationPage s) out)
-not-wrote s out en ef er =
-    (ef ∙ ap (λ (m : ℕ). fitted m (length out)) (en ∙ sym (length-page s)), rw er)
+-- the page whole, from what the calls say
+pub page-placed : (s out : List ℕ) {n k : ℕ} {o1 o2 o3 : List ℕ} → n ≡ configurationLength s → n ≤ length out → k ≡ typesOf s → o1 ≡ fixedPut s (n - 4) out
+    → o2 ≡ headersPut s o1 k → o3 ≡ textsPut s o2 k → o3 ≡ placed (configurationPage s) out
+page-placed s out en l ek e1 e2 e3 =
+    e3 ∙ rw (e2, e1, ek, en) (page-fits s out (rw en at l) ∙ ap (λ (k : ℕ). configurationPage s ++ drop k out) (sym (length-page s)))
 
 module _ (p c : List ℕ) where
   length-told : (t : ℕ) → length (textTold p t) ≡ mostText

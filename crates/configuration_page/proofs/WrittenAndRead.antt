@@ -29,7 +29,7 @@ use Rattle.configuration_page.specs.Configuration.{toldByte, textByte, o
 use Rattle.configuration_page.proofs.WideRows.{pieces, get-behind, bytes-split, bytes-rows, bytes-same, four-bytes, sum-part, every-joined, every-bytes, every-get}
 use Rattle.bits.proofs.Logic.{by-case}
 use Rattle.configuration_page.proofs.RowsPut.{short, length-page, length-texts, not-empty}
-use Rattle.configuration_page.proofs.Refusals.{none-offends, all-passed}
+use Rattle.configuration_page.proofs.Refusals.{none-offends, parts-read}
 use Rattle.configuration_page.proofs.TextStarts.{told-byte, past-byte}
 use Rattle.configuration_page.proofs.PlacesOnPage.{page-fixed, page-types, page-header, page-counts, page-lengths, page-texts, page-text}
 use Rattle.shelf_formed.proofs.FormedShelf.{few-elements, in-head, few-types, in-type, text-printable, text-padded, type-clear}
@@ -140,13 +140,8 @@ module _ (s : List ℕ) (w : frontFormed s ≡ true) where
   unfolding firstOffence fixedPart
   accepted =
       let p = configurationPage s in
-      sym
-      (all-passed p
-      (le-leb 4 (length p) (not-empty s (length-page s)))
-      (eq-eqb (getD p 0 0) 1 (page-fixed s 0 (omega arith)))
-      said
-      (eq-eqb (length p) (neededLength p) (length-page s ∙ sym needed))
-      (eq-eqb (firstOffence p) (length p) (first-none (offends p) (length p) (below-all (fails (offends p)) (length p) (λ k l. ap not (fine k l))))))
+      let o = first-none (offends p) (length p) (below-all (fails (offends p)) (length p) (λ k l. ap not (fine k l))) in
+      parts-read p (not-empty s (length-page s)) (page-fixed s 0 (omega arith)) said (length-page s ∙ sym needed) o
 
   -- generation code and identification
   told-generation : fourAt (configurationPage s) 4 ≡ fourAt s 0

@@ -6,12 +6,12 @@ use lib.Dec.{eqb, leb, ltb}
 use lib.ListN.{length, getD}
 use Rattle.bits.specs.Choice.{pick, firstBelow, sumBelow}
 use Rattle.element.specs.Types.{served}
-use Rattle.refusals.specs.declared.Refusal.the-variants.{PageTooShort, PageCode, PageLength, NotAllowed}
+use Rattle.refusals.specs.declared.Refusal.the-variants.{NotAllowed}
 use Rattle.refusals.specs.declared.Answer.{Answer}
 use Rattle.refusals.specs.declared.Answer.the-variants.{Accepted}
-use Rattle.refusals.specs.Outcomes.{unless}
+use Rattle.refusals.specs.Outcomes.{unless, next}
 use Rattle.shelf.specs.Limits.{mostTypes, mostElements, mostInType, mostText}
-use Rattle.page.specs.Header.{lengthSaid}
+use Rattle.page.specs.Header.{framed, lengthTested}
 use Rattle.configuration_page.specs.Page.{headerPlace}
 
 abbrev pub typesOn : List ℕ → ℕ
@@ -68,11 +68,10 @@ offenceBelow p n = firstBelow (offends p) n
 unfoldable pub firstOffence : List ℕ → ℕ
 firstOffence p = firstBelow (offends p) (length p)
 
--- 2: fewer than 4 bytes; 3: another page code; 4: not page length + 4 bytes, or not those that the type list needs; 6: a byte offends
+-- 6: a byte offends
+unfoldable pub bytesTested : List ℕ → Answer
+bytesTested p = unless (eqb (firstOffence p) (length p)) NotAllowed Accepted
+
+-- 2, 3, 4: the frame; 4: not the length that the type list needs; 6: a byte offends
 unfoldable pub configurationRead : List ℕ → Answer
-configurationRead p =
-    unless (leb 4 (length p)) PageTooShort
-    (unless (eqb (getD p 0 0) 0x01) PageCode
-    (unless (lengthSaid p) PageLength
-    (unless (eqb (length p) (neededLength p)) PageLength
-    (unless (eqb (firstOffence p) (length p)) NotAllowed Accepted))))
+configurationRead p = next (framed p 0x01) (next (lengthTested p (neededLength p)) (bytesTested p))

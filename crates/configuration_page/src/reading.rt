@@ -9,6 +9,7 @@ use refusals::Answer;
 use refusals::Refusal;
 use shelf::limits;
 ghost use mathlib.Core.Path.{_≡_};
+ghost use mathlib.Core.Bool.{true};
 ghost use mathlib.Core.List.{_++_};
 ghost use Prim.Native.Nat.{_+_, _-_, _<_, _≤_};
 ghost use lib.Dec.{leb};
@@ -17,11 +18,12 @@ ghost use Rattle.bits.specs.Choice.{firstBelow};
 ghost use Rattle.bits.specs.Places.{fourAt};
 ghost use Rattle.bits.specs.Rows.{bytesAt};
 ghost use Rattle.refusals.specs.declared.Answer.the-variants.{Accepted};
-ghost use Rattle.refusals.specs.Outcomes.{recordAfter};
-ghost use Rattle.shelf.specs.Limits.{mostTypes, mostText, HasTypes};
+ghost use Rattle.refusals.specs.Outcomes.{placed, HandsBack};
+ghost use Rattle.shelf.specs.Limits.{mostTypes, mostText, elementPlace, HasTypes};
+ghost use Rattle.page.specs.Header.{lengthSaid, lengthTested};
 ghost use Rattle.configuration_page.specs.Page.{headerPlace};
-ghost use Rattle.configuration_page.specs.Read.{typesOn, neededLength, textOffends, offends, offenceBelow, configurationRead};
-ghost use Rattle.configuration_page.specs.Configuration.{toldByte, headTold, toldStart, typePut, typesPut, configurationPut, configurationOf};
+ghost use Rattle.configuration_page.specs.Read.{typesOn, neededLength, textOffends, offends, offenceBelow, bytesTested, configurationRead};
+ghost use Rattle.configuration_page.specs.Configuration.{toldByte, headTold, toldStart, typePut, typesPut, configurationOf};
 
 // Where a page has the number of types.
 const TYPES: u32 = 10;
@@ -160,29 +162,41 @@ fn first_offence(page: &[u8], n: u32) -> u32
     texts_offence(page, end, n)
 }
 
-pub fn test(page: &[u8]) -> Answer
-    ensures { λ r. ⌜ r ≡ configurationRead (now (page .entry)) ⌝ }
+// The length that the type list needs, which is known once all headers are there.
+fn test_length(page: &[u8]) -> Answer
+    ensures { λ r. ⌜ r ≡ lengthTested (now (page .entry)) (neededLength (now (page .entry))) ⌝ }
 {
-    if page.len() < 4 {
-        return Answer::Refused(Refusal::PageTooShort);
-    }
-    if bits::byte_at(page, 0) != writing::CODE {
-        return Answer::Refused(Refusal::PageCode);
-    }
-    if !header::says_its_length(page) {
-        return Answer::Refused(Refusal::PageLength);
-    }
     if !has_headers(page) {
         return Answer::Refused(Refusal::PageLength);
     }
-    let n = needed_length(page);
-    if page.len() != n as usize {
-        return Answer::Refused(Refusal::PageLength);
-    }
+    header::test_length(page, needed_length(page))
+}
+
+// The page's own tests.
+fn test_bytes(page: &[u8]) -> Answer
+    requires { ⌜ lengthSaid (now page) ≡ true ⌝ }
+    requires { ⌜ length (now page) ≡ neededLength (now page) ⌝ }
+    ensures { λ r. ⌜ r ≡ bytesTested (now (page .entry)) ⌝ }
+{
+    let n = page.len() as u32;
     if first_offence(page, n) != n {
         return Answer::Refused(Refusal::NotAllowed);
     }
     Answer::Accepted
+}
+
+pub fn test(page: &[u8]) -> Answer
+    ensures { λ r. ⌜ r ≡ configurationRead (now (page .entry)) ⌝ }
+{
+    let frame = header::test_frame(page, writing::CODE);
+    let Answer::Accepted = frame else {
+        return frame;
+    };
+    let length = test_length(page);
+    let Answer::Accepted = length else {
+        return length;
+    };
+    test_bytes(page)
 }
 
 // What a configuration has of type t before its text; zeros past the last type.
@@ -246,10 +260,10 @@ fn put_types(page: &[u8], configuration: &mut [u8])
 }
 
 // The configuration that an accepted page tells.
-fn put(page: &[u8], configuration: &mut [u8])
+fn hand_over(page: &[u8], configuration: &mut [u8])
     requires { ⌜ configurationRead (now page) ≡ Accepted ⌝ }
-    requires { ⌜ HasTypes (now configuration) ⌝ }
-    ensures { λ _. ⌜ now (configuration .exit) ≡ configurationPut (now (page .entry)) (now (configuration .entry)) ⌝ }
+    requires { ⌜ length (now configuration) ≡ elementPlace 0 ⌝ }
+    ensures { λ _. ⌜ now (configuration .exit) ≡ placed (configurationOf (now (page .entry))) (now (configuration .entry)) ⌝ }
 {
     let types = [bits::byte_at(page, TYPES), 0, 0, 0];
     bits::put_four(configuration, limits::GENERATION, bits::four_at(page, 4));
@@ -265,13 +279,12 @@ fn put(page: &[u8], configuration: &mut [u8])
 }
 
 pub fn read(page: &[u8], configuration: &mut [u8; limits::CONFIGURATION]) -> Answer
-    ensures { λ r. ⌜ r ≡ configurationRead (now (page .entry)) ⌝ }
-    ensures { λ r. ⌜ now (configuration .exit) ≡ recordAfter r (configurationOf (now (page .entry))) (now (configuration .entry)) ⌝ }
+    ensures { λ r. ⌜ HandsBack (configurationRead (now (page .entry))) (configurationOf (now (page .entry))) (now (configuration .entry)) r (now (configuration .exit)) ⌝ }
 {
-    let answer = test(page);
-    let Answer::Accepted = answer else {
-        return answer;
+    let tested = test(page);
+    let Answer::Accepted = tested else {
+        return tested;
     };
-    put(page, configuration);
-    Answer::Accepted
+    hand_over(page, configuration);
+    tested
 }

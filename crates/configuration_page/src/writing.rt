@@ -7,7 +7,8 @@ use shelf::types;
 ghost use mathlib.Core.Path.{_≡_};
 ghost use Prim.Native.Nat.{_≤_};
 ghost use lib.ListN.{length};
-ghost use Rattle.refusals.specs.Outcomes.{fitted, outAfter};
+ghost use Rattle.refusals.specs.declared.Answer.the-variants.{Accepted};
+ghost use Rattle.refusals.specs.Outcomes.{placed, WritesPage};
 ghost use Rattle.shelf.specs.Limits.{mostTypes, HasTypes};
 ghost use Rattle.shelf.specs.Types.{typesOf};
 ghost use Rattle.shelf_formed.specs.Formed.{HasFront};
@@ -101,19 +102,28 @@ fn put_texts(front: &[u8], n: u16, out: &mut [u8])
     }
 }
 
-pub fn write(front: &[u8], out: &mut [u8]) -> Written
+// The page into an output buffer that holds it.
+fn put(front: &[u8], bytes: u32, out: &mut [u8])
     requires { ⌜ HasFront (now front) ⌝ }
-    ensures { λ r. ⌜ r ≡ fitted (length (configurationPage (now (front .entry)))) (length (now (out .entry))) ⌝ }
-    ensures { λ r. ⌜ now (out .exit) ≡ outAfter r (configurationPage (now (front .entry))) (now (out .entry)) ⌝ }
+    requires { ⌜ bytes ≡ configurationLength (now front) ⌝ }
+    requires { ⌜ bytes ≤ length (now out) ⌝ }
+    ensures { λ _. ⌜ now (out .exit) ≡ placed (configurationPage (now (front .entry))) (now (out .entry)) ⌝ }
 {
-    let bytes = length(front);
-    let written = Written::fit(bytes, out.len());
-    let Written::Bytes(_) = written else {
-        return written;
-    };
     let n = types::count(front);
     put_fixed(front, bytes - 4, out);
     put_headers(front, n, out);
     put_texts(front, n, out);
-    written
+}
+
+pub fn write(front: &[u8], out: &mut [u8]) -> Written
+    requires { ⌜ HasFront (now front) ⌝ }
+    ensures { λ r. ⌜ WritesPage Accepted (configurationPage (now (front .entry))) (now (out .entry)) r (now (out .exit)) ⌝ }
+{
+    let bytes = length(front);
+    let fit = Written::fit(bytes, out.len());
+    let Written::Bytes(_) = fit else {
+        return fit;
+    };
+    put(front, bytes, out);
+    fit
 }

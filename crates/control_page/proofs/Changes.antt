@@ -7,7 +7,6 @@ use Prim.Native.Nat.{ℕ, _+_, _<_}
 use native.Mathlib.Omega.{arith}
 use lib.Dec.{ltb}
 use lib.ListN.{length, getD}
-use Rattle.bits.specs.Choice.{pick}
 use Rattle.bits.specs.Places.{fourAt}
 use Rattle.bits.specs.Rows.{joined}
 use Rattle.bits.proofs.Logic.{by-case, pick-no}
@@ -30,15 +29,12 @@ use Rattle.page.specs.declared.slots.Slot.{Slot}
 use Rattle.page.specs.Slots.{slotsOf, slotPlace}
 use Rattle.page.specs.Places.{ownSlot, overallSlot, placesOf}
 use Rattle.page.proofs.ElementSlots.{places-alike, own-there, overall-there}
-use Rattle.page.proofs.SameFront.{slots-alike, slot-alike, asked-alike}
+use Rattle.page.proofs.SameFront.{slots-alike, slot-alike, tested-alike}
 use Rattle.control_page.specs.Tests.{slotOffending, valid}
 use Rattle.control_page.specs.Brought.{actingAt, settingsAfter, broughtTo, storedSettings, settingsIn, withSettings}
+pub use Rattle.control_page.specs.Brought.{after}
 use Rattle.control_page.proofs.ValidPage.{valid-headed, valid-formed, valid-first, valid-slot, parts-valid}
 use Rattle.control_page.proofs.PageActs.{settings-place, after-length}
-
--- the shelf after the call, as its contract says
-abbrev pub after : List ℕ → List ℕ → List ℕ
-after s p = pick (valid s p) (withSettings s (broughtTo s p)) s
 
 module _ (s p : List ℕ) where
   abbrev n : ℕ
@@ -161,7 +157,7 @@ unfolding slotOffending
 valid-again s p v =
     let w = valid-formed s p v in
     let e = configuration-kept s p in
-    parts-valid (after s p) p (asked-alike s (after s p) e p 0x02 w (stays-formed s p w) ∙ valid-headed s p v) (valid-first s p v)
+    parts-valid (after s p) p (tested-alike s (after s p) e p 0x02 w (stays-formed s p w) ∙ valid-headed s p v) (valid-first s p v)
     (λ i m.
     let l : i < slotsOf s = rw (slots-alike s (after s p) e) at m in
     ap (λ (at : Slot). ltb (offending (at .kind) (fourAt p (slotPlace i))) 4) (slot-alike s (after s p) e (front-formed s w) i l) ∙ valid-slot s p v i l)

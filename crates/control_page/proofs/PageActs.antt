@@ -6,7 +6,6 @@ use Prim.Native.Nat.{ℕ, _+_, _<_}
 use native.Mathlib.Nat.{add-zero}
 use native.Mathlib.Omega.{arith}
 use lib.ListN.{length}
-use Rattle.bits.specs.Choice.{pick}
 use Rattle.bits.specs.Places.{fourAt, putFour, foursPut}
 use Rattle.bits.proofs.FoursPut.{put-same, fours-next, fours-length, fours-joined}
 use Rattle.element.specs.declared.types.Kind.{Kind}
@@ -26,11 +25,11 @@ use Rattle.shelf_formed.proofs.ElementsPut.{front-after, row-later}
 use Rattle.page.specs.declared.places.Places.{Places}
 use Rattle.page.specs.Places.{placesOf, HasSlots}
 use Rattle.page.specs.Header.{HasPage}
-use Rattle.page.proofs.HeaderBothWays.{asked-has}
+use Rattle.page.proofs.HeaderBothWays.{tested-has}
 use Rattle.page.proofs.ElementSlots.{places-alike, element-there}
 use Rattle.control_page.specs.Tests.{controlTested, valid}
 use Rattle.control_page.proofs.ValidPage.{valid-headed}
-use Rattle.control_page.specs.Brought.{actingAt, settingsAfter, broughtTo, withSettings}
+use Rattle.control_page.specs.Brought.{actingAt, settingsAfter, broughtTo, withSettings, after}
 
 -- one element
 module _ (s : List ℕ) (j : ℕ) where
@@ -103,14 +102,14 @@ module _ (s p : List ℕ) where
 
   -- the call as a whole
   module _ {a : Answer} (h : a ≡ controlTested s p) where
-    pub refused-after : {r : Refusal} → a ≡ Refused r → s ≡ pick (valid s p) (withSettings s (broughtTo s p)) s
+    pub refused-after : {r : Refusal} → a ≡ Refused r → s ≡ after s p
     unfolding valid
     refused-after u = sym (rw (← h, u))
 
     pub accepted-room : a ≡ Accepted → HasPage s p
     unfolding valid
-    accepted-room u = let v : valid s p ≡ true = rw (← h, u) in asked-has s p 0x02 (valid-headed s p v)
+    accepted-room u = let v : valid s p ≡ true = rw (← h, u) in tested-has s p 0x02 (valid-headed s p v)
 
-    pub accepted-after : {x : List ℕ} → a ≡ Accepted → x ≡ withSettings s (broughtTo s p) → x ≡ pick (valid s p) (withSettings s (broughtTo s p)) s
+    pub accepted-after : {x : List ℕ} → a ≡ Accepted → x ≡ withSettings s (broughtTo s p) → x ≡ after s p
     unfolding valid
     accepted-after u e = e ∙ sym (rw (← h, u))

@@ -1,28 +1,30 @@
 -- What each test of a control page comes to, from what the calls say. Assumes nothing.
-use mathlib.Core.Path.{_≡_, sym, _∙_}
+use mathlib.Core.Path.{_≡_, refl, sym, _∙_}
 use mathlib.Core.Bool.{true, false}
 use mathlib.Core.List.{List, [], _∷_}
 use Prim.Native.Nat.{ℕ, _+_, _<_, _≤_}
 use native.Mathlib.Omega.{arith}
-use lib.Dec.{eqb}
 use lib.ListN.{length, getD}
+use borrow.Author.Tests.{eq-eqb, ne-eqb}
 use Rattle.bits.specs.Choice.{allBelow, refusedIn}
 use Rattle.bits.specs.Bits.{only}
 use Rattle.bits.specs.Places.{fourAt}
 use Rattle.bits.proofs.Logic.{pick-yes, pick-no, fails}
 use Rattle.bits.proofs.Offence.{refused-at, refused-none}
 use Rattle.element.specs.Control.{offending}
-use Rattle.refusals.specs.declared.Refusal.{Refusal}
 use Rattle.refusals.specs.declared.Refusal.the-variants.{NotAllowed}
-use Rattle.refusals.specs.declared.Answer.{Answer}
 use Rattle.refusals.specs.declared.Answer.the-variants.{Accepted, Refused}
+use Rattle.refusals.specs.declared.Tested.{Tested}
+use Rattle.refusals.specs.declared.Tested.the-variants.{Slots}
+use Rattle.refusals.specs.Outcomes.{withSlots}
+use Rattle.refusals.proofs.Stages.{slots-told}
 use Rattle.shelf_formed.specs.Formed.{HasFront}
 use Rattle.page.specs.declared.slots.SlotRun.{SlotRun}
 use Rattle.page.specs.Slots.{slotsOf, slotPlace, slotRun}
 use Rattle.page.proofs.SlotWalk.{run-kind}
 use Rattle.page.specs.Header.{pageTested}
 use Rattle.page.proofs.ElementSlots.{page-has, page-front}
-use Rattle.control_page.specs.Tests.{slotOffending, offence, controlTested}
+use Rattle.control_page.specs.Tests.{slotOffending, offence, bytesTested}
 
 pub slot-offends : (s p : List ℕ) (i : ℕ) {r : SlotRun} {n : ℕ} → r ≡ slotRun s i → n ≡ offending (r .kind) (fourAt p (slotPlace i)) → n ≡ slotOffending s p i
 unfolding slotOffending
@@ -43,21 +45,19 @@ module _ (s p : List ℕ) (n : ℕ) where
     unfolding offence
     none-refused a u = refused-none slotPlace (slotOffending s p) n a u ∙ sym (pick-yes _ _ _ e)
 
--- the tests one after the other
-module _ (s p : List ℕ) {a : Answer} (h : a ≡ pageTested s p 0x02) where
-  pub page-refused : {r : Refusal} → a ≡ Refused r → a ≡ controlTested s p
-  unfolding controlTested
-  page-refused u = u ∙ sym (rw (← h, u))
+-- the page's own tests
+module _ (s p : List ℕ) (n : ℕ) {k m : ℕ} (x : k ≡ offence s p n) (y : m ≡ slotPlace n) where
+  pub byte-refused : (k ≡ m → ⊥) → Refused NotAllowed ≡ bytesTested s p n
+  unfolding bytesTested
+  byte-refused t = sym (rw (← x, ← y, ne-eqb k m t))
 
-  -- the bytes that are read after the header's tests
-  pub page-room : {n : ℕ} → a ≡ Accepted → n ≡ slotsOf s → HasFront s × ((n ≤ slotsOf s) × (slotPlace n ≤ length p))
-  page-room u q = (page-front s p 0x02 h u, (omega arith, omega (arith, page-has s p 0x02 h u .1)))
+  pub bytes-passed : k ≡ m → Accepted ≡ bytesTested s p n
+  unfolding bytesTested
+  bytes-passed t = sym (rw (← x, ← y, eq-eqb k m t))
 
-  module _ (u : a ≡ Accepted) {n k m : ℕ} (q : n ≡ slotsOf s) (x : k ≡ offence s p n) (y : m ≡ slotPlace n) where
-    pub byte-refused : eqb k m ≡ false → Refused NotAllowed ≡ controlTested s p
-    unfolding controlTested
-    byte-refused t = sym (rw (← h, u, ← q, ← x, ← y, t))
-
-    pub page-passed : eqb k m ≡ true → a ≡ controlTested s p
-    unfolding controlTested
-    page-passed t = u ∙ sym (rw (← h, u, ← q, ← x, ← y, t))
+-- the bytes that they read, behind the tests of the shelf and the header
+pub page-room : (s p : List ℕ) {t : Tested} {n : ℕ} → t ≡ withSlots (pageTested s p 0x02) (slotsOf s) → t ≡ Slots n
+    → HasFront s × ((n ≤ slotsOf s) × (slotPlace n ≤ length p))
+page-room s p h u =
+    let e = slots-told (pageTested s p 0x02) (slotsOf s) h u in
+    (page-front s p 0x02 refl (e .0), (omega (arith, e .1), omega (arith, e .1, page-has s p 0x02 refl (e .0) .1)))

@@ -18,8 +18,8 @@ use Rattle.refusals.proofs.AcceptedTests.{accepted, held, held-both}
 use Rattle.shelf_formed.specs.Formed.{wellFormed}
 use Rattle.page.specs.Slots.{slotsOf, slotPlace}
 use Rattle.page.specs.Header.{pageTested}
-use Rattle.page.proofs.HeaderTests.{asked-formed}
-use Rattle.control_page.specs.Tests.{slotOffending, offence, controlTested, valid}
+use Rattle.page.proofs.HeaderTests.{tested-formed}
+use Rattle.control_page.specs.Tests.{slotOffending, offence, bytesTested, controlTested, valid}
 
 -- page byte 1 has none of its reserved bits
 abbrev pub firstFine : List ℕ → Bool
@@ -36,7 +36,7 @@ module _ (s p : List ℕ) where
 
   module _ (v : valid s p ≡ true) where
     parts : (pageTested s p 0x02 ≡ Accepted) × (offence s p (slotsOf s) ≡ slotPlace (slotsOf s))
-    unfolding valid controlTested
+    unfolding valid controlTested bytesTested
     parts =
         let n = slotsOf s in
         let t = eqb (offence s p n) (slotPlace n) in
@@ -47,7 +47,7 @@ module _ (s p : List ℕ) where
     valid-headed = parts .0
 
     pub valid-formed : wellFormed s ≡ true
-    valid-formed = asked-formed s p 0x02 valid-headed
+    valid-formed = tested-formed s p 0x02 valid-headed
 
     pub valid-first : firstFine p ≡ true
     valid-first = own-fine (slotsOf s) (parts .1)
@@ -58,7 +58,7 @@ module _ (s p : List ℕ) where
         row-fine slotPlace (slotOffending s p) (slotsOf s) (λ j m. omega arith) (sym (pick-yes _ _ _ valid-first) ∙ parts .1) i l
 
   pub parts-valid : pageTested s p 0x02 ≡ Accepted → firstFine p ≡ true → ((i : ℕ) → i < slotsOf s → refusedIn (slotOffending s p) i ≡ false) → valid s p ≡ true
-  unfolding valid controlTested offence
+  unfolding valid controlTested bytesTested offence
   parts-valid h e g =
       let n = slotsOf s in
       let a = below-all (fails (refusedIn (slotOffending s p))) n (λ i l. ap not (g i l)) in

@@ -1,6 +1,7 @@
--- What a control page brings a shelf to. Assumes nothing.
+-- What a control page brings a shelf to, and what the call leaves of it. Assumes nothing.
 use mathlib.Core.List.{List}
 use Prim.Native.Nat.{ℕ, _*_}
+use Rattle.bits.specs.Choice.{pick}
 use Rattle.bits.specs.Places.{fourAt, foursPut}
 use Rattle.bits.specs.Rows.{joined}
 use Rattle.element.specs.declared.control.Control.{Control}
@@ -10,6 +11,7 @@ use Rattle.shelf.specs.Types.{elementsOf}
 use Rattle.shelf.specs.Elements.{settingsAt}
 use Rattle.page.specs.declared.places.Places.{Places}
 use Rattle.page.specs.Places.{placesOf}
+use Rattle.control_page.specs.Tests.{valid}
 
 -- the control element that acts on an element with these slots
 abbrev pub actingAt : List ℕ → Places → Control
@@ -34,3 +36,7 @@ settingsIn w j = fourAt w (4 * j)
 -- the shelf with these settings
 unfoldable pub withSettings : List ℕ → List ℕ → List ℕ
 withSettings s w = foursPut elementPlace (settingsIn w) s (elementsOf s)
+
+-- the shelf after the call: with the settings of a page that it accepts, else as it was
+abbrev pub after : List ℕ → List ℕ → List ℕ
+after s p = pick (valid s p) (withSettings s (broughtTo s p)) s

@@ -23,9 +23,13 @@ slotOffending s p i = offending (slotAt s i .kind) (fourAt p (slotPlace i))
 unfoldable pub offence : List ℕ → List ℕ → ℕ → ℕ
 offence s p n = pick (only (3 ∷ 2 ∷ 1 ∷ 0 ∷ []) (getD p 1 0)) (offenceIn slotPlace (slotOffending s p) n) 1
 
--- 1 to 5: the shelf and the header; 6: a byte of the page is refused
+-- 6: a byte of a page with n slots is refused
+unfoldable pub bytesTested : List ℕ → List ℕ → ℕ → Answer
+bytesTested s p n = unless (eqb (offence s p n) (slotPlace n)) NotAllowed Accepted
+
+-- 1 to 5: the shelf and the header; 6: the bytes
 unfoldable pub controlTested : List ℕ → List ℕ → Answer
-controlTested s p = next (pageTested s p 0x02) (unless (eqb (offence s p (slotsOf s)) (slotPlace (slotsOf s))) NotAllowed Accepted)
+controlTested s p = next (pageTested s p 0x02) (bytesTested s p (slotsOf s))
 
 -- a valid control page is one that this shelf accepts
 unfoldable pub valid : List ℕ → List ℕ → Bool

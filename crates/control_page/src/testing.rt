@@ -4,6 +4,7 @@ use element::types::Kind;
 use page::slots;
 use refusals::Answer;
 use refusals::Refusal;
+use refusals::Tested;
 ghost use mathlib.Core.Path.{_≡_};
 ghost use Prim.Native.Nat.{_+_, _≤_};
 ghost use lib.ListN.{length};
@@ -11,7 +12,7 @@ ghost use Rattle.bits.specs.Places.{fourAt};
 ghost use Rattle.element.specs.Control.{offending};
 ghost use Rattle.shelf_formed.specs.Formed.{HasFront};
 ghost use Rattle.page.specs.Slots.{slotsOf, slotPlace};
-ghost use Rattle.control_page.specs.Tests.{offence, controlTested};
+ghost use Rattle.control_page.specs.Tests.{offence, bytesTested, controlTested};
 
 pub const CODE: u8 = 0x02;
 
@@ -48,16 +49,25 @@ fn first_offence(shelf: &[u8], page: &[u8], n: u16) -> u32
     slots::slot_place(n)
 }
 
-pub fn test(shelf: &[u8], page: &[u8]) -> Answer
-    ensures { λ r. ⌜ r ≡ controlTested (now (shelf .entry)) (now (page .entry)) ⌝ }
+// The page's own tests.
+fn test_bytes(shelf: &[u8], page: &[u8], n: u16) -> Answer
+    requires { ⌜ HasFront (now shelf) ⌝ }
+    requires { ⌜ n ≤ slotsOf (now shelf) ⌝ }
+    requires { ⌜ slotPlace n ≤ length (now page) ⌝ }
+    ensures { λ r. ⌜ r ≡ bytesTested (now (shelf .entry)) (now (page .entry)) n ⌝ }
 {
-    let tested = page::testing::page(shelf, page, CODE);
-    let Answer::Accepted = tested else {
-        return tested;
-    };
-    let n = slots::count(shelf);
     if first_offence(shelf, page, n) != slots::slot_place(n) {
         return Answer::Refused(Refusal::NotAllowed);
     }
-    tested
+    Answer::Accepted
+}
+
+pub fn test(shelf: &[u8], page: &[u8]) -> Answer
+    ensures { λ r. ⌜ r ≡ controlTested (now (shelf .entry)) (now (page .entry)) ⌝ }
+{
+    let tested = page::testing::page_slots(shelf, page, CODE);
+    let Tested::Slots(n) = tested else {
+        return tested.answer();
+    };
+    test_bytes(shelf, page, n)
 }

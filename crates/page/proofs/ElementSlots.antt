@@ -26,7 +26,7 @@ use Rattle.page.specs.Places.{ownSlot, overallSlot, placesOf, HasSlots}
 use Rattle.page.specs.Header.{pageTested, HasPage}
 use Rattle.page.proofs.SlotsOfFront.{first-within, end-there}
 use Rattle.page.proofs.SlotBounds.{shelf-there}
-use Rattle.page.proofs.HeaderBothWays.{asked-has}
+use Rattle.page.proofs.HeaderBothWays.{tested-has}
 
 pub places-alike : (s x : List ℕ) → front x ≡ front s → (j : ℕ) → j < elementsOf s → placesOf x j ≡ placesOf s j
 unfolding placesOf startOf
@@ -103,7 +103,7 @@ slot-has s w i l e =
 -- the same from the answer of the tests before a page's own
 module _ (s p : List ℕ) (code : ℕ) {a : Answer} (h : a ≡ pageTested s p code) (u : a ≡ Accepted) where
   pub page-has : HasPage s p
-  page-has = asked-has s p code (sym h ∙ u)
+  page-has = tested-has s p code (sym h ∙ u)
 
   pub page-front : HasFront s
   page-front = front-there s p page-has

@@ -12,14 +12,14 @@ use Rattle.bits.specs.Places.{twoAt, fourAt}
 use Rattle.bits.specs.Rows.{joined}
 use Rattle.bits.proofs.Widths.{big-bytes, bytes-big}
 use Rattle.bits.proofs.Rows.{take-four}
-use Rattle.refusals.specs.declared.Refusal.the-variants.{PageTooShort, PageCode, PageLength, Generation}
+use Rattle.refusals.specs.declared.Refusal.the-variants.{PageTooShort, PageCode, PageLength}
 use Rattle.refusals.specs.declared.Answer.{Answer}
 use Rattle.refusals.specs.declared.Answer.the-variants.{Accepted}
 use Rattle.refusals.specs.Outcomes.{unless}
 use Rattle.refusals.proofs.AcceptedTests.{held, held-both}
 use Rattle.page.specs.Slots.{slotsOf, slotPlace}
-use Rattle.page.specs.Header.{shelfTested, pageTested, HasPage, lengthSaid, generationOn, generationOf, headed, header}
-use Rattle.page.proofs.HeaderTests.{head-passed, asked-formed}
+use Rattle.page.specs.Header.{shelfTested, pageTested, HasPage, lengthSaid, generationOn, generationOf, framed, headed, header}
+use Rattle.page.proofs.HeaderTests.{frame-passed, head-passed, head-parts, tested-formed}
 use Rattle.page.proofs.PagePut.{length-page}
 
 -- each byte of a list of bytes is one
@@ -37,28 +37,30 @@ same-four s p j k hs hp e =
     ∙ ap (bytes 4) e
     ∙ bytes-big (fourAt p k) (y k, (y (k + 1), (y (k + 2), (y (k + 3), tt))))
 
+-- a frame that passed has the code, and says the length
+pub frame-parts : (p : List ℕ) (code : ℕ) → framed p code ≡ Accepted → (getD p 0 0 ≡ code) × (lengthSaid p ≡ true)
+unfolding framed
+frame-parts p code a =
+    let r3 : Answer = unless (lengthSaid p) PageLength Accepted in
+    let r2 : Answer = unless (eqb (getD p 0 0) code) PageCode r3 in
+    let h1 = held (leb 4 (length p)) PageTooShort r2 a in
+    let h2 = held (eqb (getD p 0 0) code) PageCode r3 (h1 .1) in
+    (eqb-true (getD p 0 0) code (h2 .0), held (lengthSaid p) PageLength Accepted (h2 .1) .0)
+
 module _ (c p : List ℕ) (code n : ℕ) (a : headed c p code n ≡ Accepted) where
-  facts : (getD p 0 0 ≡ code) × (lengthSaid p ≡ true) × (length p ≡ slotPlace n) × (generationOn p ≡ generationOf c)
-  unfolding headed
-  facts =
-      let r5 : Answer = unless (eqb (generationOn p) (generationOf c)) Generation Accepted in
-      let r4 : Answer = unless (eqb (length p) (slotPlace n)) PageLength r5 in
-      let r3 : Answer = unless (lengthSaid p) PageLength r4 in
-      let r2 : Answer = unless (eqb (getD p 0 0) code) PageCode r3 in
-      let h1 = held (leb 4 (length p)) PageTooShort r2 a in
-      let h2 = held (eqb (getD p 0 0) code) PageCode r3 (h1 .1) in
-      let h3 = held (lengthSaid p) PageLength r4 (h2 .1) in
-      let h4 = held (eqb (length p) (slotPlace n)) PageLength r5 (h3 .1) in
-      let h5 = held (eqb (generationOn p) (generationOf c)) Generation Accepted (h4 .1) in
-      (eqb-true (getD p 0 0) code (h2 .0), h3 .0, eqb-true (length p) (slotPlace n) (h4 .0), eqb-true (generationOn p) (generationOf c) (h5 .0))
+  parts : (framed p code ≡ Accepted) × (length p ≡ slotPlace n) × (generationOn p ≡ generationOf c)
+  parts = head-parts c p code n a
+
+  framed-as : (getD p 0 0 ≡ code) × (lengthSaid p ≡ true)
+  framed-as = frame-parts p code (parts .0)
 
   pub length-tested : length p ≡ slotPlace n
-  length-tested = facts .2
+  length-tested = parts .1
 
   said : big (twoAt p 2) ≡ slotPlace n - 4
   unfolding lengthSaid
   said =
-      let e = eqb-true (length p) (big (twoAt p 2) + 4) (facts .1) in
+      let e = eqb-true (length p) (big (twoAt p 2) + 4) (framed-as .1) in
       omega (arith, e, length-tested)
 
   -- the header again
@@ -67,20 +69,20 @@ module _ (c p : List ℕ) (code n : ℕ) (a : headed c p code n ≡ Accepted) wh
   header-again own hc hp o =
       let y = byte-small p hp in
       let l : bytes 2 (slotPlace n - 4) ≡ twoAt p 2 = ap (bytes 2) (sym said) ∙ bytes-big (twoAt p 2) (y 2, (y 3, tt)) in
-      let g = same-four c p 0 4 hc hp (sym (facts .3)) in
+      let g = same-four c p 0 4 hc hp (sym (parts .2)) in
       let t0 : take 4 p ≡ fourAt p 0 = take-four p 0 (omega (arith, length-tested)) in
       let t1 : take 8 p ≡ fourAt p 0 ++ fourAt p 4 = take-four p 4 (omega (arith, length-tested)) ∙ ap (λ (x : List ℕ). x ++ fourAt p 4) t0 in
-      ap (λ (x : ℕ). x ∷ own ∷ (bytes 2 (slotPlace n - 4) ++ fourAt c 0)) (sym (facts .0))
+      ap (λ (x : ℕ). x ∷ own ∷ (bytes 2 (slotPlace n - 4) ++ fourAt c 0)) (sym (framed-as .0))
       ∙ ap (λ (x : ℕ). getD p 0 0 ∷ x ∷ (bytes 2 (slotPlace n - 4) ++ fourAt c 0)) o
       ∙ ap₂ (λ (x y : List ℕ). getD p 0 0 ∷ getD p 1 0 ∷ (x ++ y)) l g
       ∙ sym t1
 
 -- an accepted page and its shelf have all the bytes that are read after the tests
-pub asked-has : (s p : List ℕ) (code : ℕ) → pageTested s p code ≡ Accepted → HasPage s p
+pub tested-has : (s p : List ℕ) (code : ℕ) → pageTested s p code ≡ Accepted → HasPage s p
 unfolding pageTested
-asked-has s p code e =
+tested-has s p code e =
     let h = held-both (shelfTested s) (headed s p code (slotsOf s)) e .1 in
-    (asked-formed s p code e, omega (arith, length-tested s p code (slotsOf s) h))
+    (tested-formed s p code e, omega (arith, length-tested s p code (slotsOf s) h))
 
 -- a page that was written under the same generation code passes
 pub head-written : (f : ℕ → List ℕ) → ((i : ℕ) → length (f i) ≡ 4) → (c : List ℕ) (code own n : ℕ) → slotPlace n < 65540
@@ -89,8 +91,8 @@ unfolding header lengthSaid
 head-written f h c code own n l =
     let p : List ℕ = header c code own n ++ joined f n in
     let e : length p ≡ slotPlace n = length-page f h c code own n in
-    sym (head-passed c p code n (le-leb 4 (length p) (omega (arith, e))) (eq-eqb code code refl) (says e) (eq-eqb (length p) (slotPlace n) e)
-    (eq-eqb (generationOf c) (generationOf c) refl))
+    let f = frame-passed p code (le-leb 4 (length p) (omega (arith, e))) (eq-eqb code code refl) (says e) in
+    head-passed c p code n (sym f) e refl
   where
     says : length (header c code own n ++ joined f n) ≡ slotPlace n → lengthSaid (header c code own n ++ joined f n) ≡ true
     says e = eq-eqb _ _ (e ∙ sym (ap (λ (x : ℕ). x + 4) (big-bytes 2 (slotPlace n - 4) (omega arith)) ∙ omega arith))

@@ -6,6 +6,7 @@ use Prim.Native.Nat.{ℕ, _/_, _%_, _-_, _≤_}
 use native.Mathlib.Omega.{arith}
 use lib.Dec.{eqb, leb}
 use lib.ListN.{length, getD, drop}
+use borrow.Author.Tests.{eq-eqb, ne-eqb, eqb-true}
 use Rattle.bits.specs.Numbers.{bytes}
 use Rattle.bits.specs.Places.{fourAt, putFour}
 use Rattle.bits.proofs.Rows.{put-next}
@@ -14,41 +15,101 @@ use Rattle.refusals.specs.declared.Refusal.the-variants.{ShelfNotWellFormed, Pa
 use Rattle.refusals.specs.declared.Refusal.{Refusal}
 use Rattle.refusals.specs.declared.Answer.{Answer}
 use Rattle.refusals.specs.declared.Answer.the-variants.{Accepted, Refused}
+use Rattle.refusals.specs.Outcomes.{next}
 use Rattle.refusals.proofs.AcceptedTests.{held, held-both}
+use Rattle.refusals.proofs.Stages.{stopped, gone-on}
 use Rattle.shelf.specs.Limits.{HasTypes}
 use Rattle.shelf_formed.specs.Formed.{wellFormed}
 use Rattle.shelf_formed.proofs.ElementPut.{length-formed}
 use Rattle.page.specs.Slots.{slotsOf, slotPlace}
-use Rattle.page.specs.Header.{shelfTested, pageTested, lengthSaid, generationOn, generationOf, headed, header, headPut}
+use Rattle.page.specs.Header.{shelfTested, pageTested, lengthSaid, generationOn, generationOf, framed, lengthTested, generationTested, headed, header, headPut}
 
-module _ (c p : List ℕ) (code n : ℕ) where
-  pub too-short : leb 4 (length p) ≡ false → Refused PageTooShort ≡ headed c p code n
-  unfolding headed
+-- the frame
+module _ (p : List ℕ) (code : ℕ) where
+  pub too-short : leb 4 (length p) ≡ false → Refused PageTooShort ≡ framed p code
+  unfolding framed
   too-short e = rw e
 
   module _ (e1 : leb 4 (length p) ≡ true) where
-    pub other-code : eqb (getD p 0 0) code ≡ false → Refused PageCode ≡ headed c p code n
-    unfolding headed
+    pub other-code : eqb (getD p 0 0) code ≡ false → Refused PageCode ≡ framed p code
+    unfolding framed
     other-code e = rw (e1, e)
 
     module _ (e2 : eqb (getD p 0 0) code ≡ true) where
-      pub other-length : lengthSaid p ≡ false → Refused PageLength ≡ headed c p code n
-      unfolding headed
+      pub other-length : lengthSaid p ≡ false → Refused PageLength ≡ framed p code
+      unfolding framed
       other-length e = rw (e1, e2, e)
 
-      module _ (e3 : lengthSaid p ≡ true) where
-        pub other-slots : eqb (length p) (slotPlace n) ≡ false → Refused PageLength ≡ headed c p code n
+      pub frame-passed : lengthSaid p ≡ true → Accepted ≡ framed p code
+      unfolding framed
+      frame-passed e = rw (e1, e2, e)
+
+-- the length that the type list needs
+module _ (p : List ℕ) (n : ℕ) where
+  pub length-differs : (length p ≡ n → ⊥) → Refused PageLength ≡ lengthTested p n
+  unfolding lengthTested
+  length-differs e = rw (ne-eqb (length p) n e)
+
+  pub length-passed : length p ≡ n → Accepted ≡ lengthTested p n
+  unfolding lengthTested
+  length-passed e = rw (eq-eqb (length p) n e)
+
+  pub length-needed : lengthTested p n ≡ Accepted → length p ≡ n
+  unfolding lengthTested
+  length-needed e = eqb-true (length p) n (held (eqb (length p) n) PageLength Accepted e .0)
+
+-- the generation code
+module _ (c p : List ℕ) where
+  pub generation-differs : (generationOn p ≡ generationOf c → ⊥) → Refused Generation ≡ generationTested c p
+  unfolding generationTested
+  generation-differs e = rw (ne-eqb (generationOn p) (generationOf c) e)
+
+  pub generation-passed : generationOn p ≡ generationOf c → Accepted ≡ generationTested c p
+  unfolding generationTested
+  generation-passed e = rw (eq-eqb (generationOn p) (generationOf c) e)
+
+  pub generation-tested : generationTested c p ≡ Accepted → generationOn p ≡ generationOf c
+  unfolding generationTested
+  generation-tested e =
+      let t = eqb (generationOn p) (generationOf c) in
+      eqb-true (generationOn p) (generationOf c) (held t Generation Accepted e .0)
+
+-- the three one after the other
+module _ (c p : List ℕ) (code n : ℕ) where
+  abbrev rest : Answer
+  rest = next (lengthTested p (slotPlace n)) (generationTested c p)
+
+  pub head-passed : framed p code ≡ Accepted → length p ≡ slotPlace n → generationOn p ≡ generationOf c → headed c p code n ≡ Accepted
+  unfolding headed
+  head-passed f l g = rw (f, ← length-passed p (slotPlace n) l, ← generation-passed c p g)
+
+  pub head-parts : headed c p code n ≡ Accepted → (framed p code ≡ Accepted) × (length p ≡ slotPlace n) × (generationOn p ≡ generationOf c)
+  unfolding headed
+  head-parts e =
+      let h = held-both (framed p code) rest e in
+      let g = held-both (lengthTested p (slotPlace n)) (generationTested c p) (h .1) in
+      (h .0, length-needed p (slotPlace n) (g .0), generation-tested c p (g .1))
+
+  module _ {a : Answer} (f : a ≡ framed p code) where
+    pub frame-refused : {r : Refusal} → a ≡ Refused r → a ≡ headed c p code n
+    unfolding headed
+    frame-refused u = stopped (framed p code) rest f u
+
+    module _ (u : a ≡ Accepted) {b : Answer} {k : ℕ} (q : k ≡ slotPlace n) (l : b ≡ lengthTested p k) where
+      needed : b ≡ lengthTested p (slotPlace n)
+      needed = l ∙ ap (lengthTested p) q
+
+      pub length-refused : {r : Refusal} → b ≡ Refused r → b ≡ headed c p code n
+      unfolding headed
+      length-refused v = gone-on (framed p code) rest f u (stopped (lengthTested p (slotPlace n)) (generationTested c p) needed v)
+
+      module _ (v : b ≡ Accepted) where
+        pub has-header : 8 ≤ length p
+        has-header = omega (arith, length-needed p (slotPlace n) (sym needed ∙ v))
+
+        pub generation-last : {d : Answer} → d ≡ generationTested c p → d ≡ headed c p code n
         unfolding headed
-        other-slots e = rw (e1, e2, e3, e)
-
-        module _ (e4 : eqb (length p) (slotPlace n) ≡ true) where
-          pub other-generation : eqb (generationOn p) (generationOf c) ≡ false → Refused Generation ≡ headed c p code n
-          unfolding headed
-          other-generation e = rw (e1, e2, e3, e4, e)
-
-          pub head-passed : eqb (generationOn p) (generationOf c) ≡ true → Accepted ≡ headed c p code n
-          unfolding headed
-          head-passed e = rw (e1, e2, e3, e4, e)
+        generation-last g = gone-on (framed p code) rest f u (gone-on (lengthTested p (slotPlace n)) (generationTested c p) needed v g)
 
 -- the header, from what the calls say
 pub head-is : (c out : List ℕ) (code own n : ℕ) {l : ℕ} {f o1 o2 : List ℕ} → l ≡ slotPlace n → o1 ≡ putFour out 0 (code ∷ own ∷ bytes 2 (l - 4))
@@ -71,16 +132,6 @@ head-put c out code own n h =
     ap (λ (o : List ℕ). putFour o 4 (fourAt c 0)) e
     ∙ put-next (code ∷ own ∷ x / 256 % 256 ∷ x % 256 ∷ []) out 4 (getD c 0 0) (getD c 1 0) (getD c 2 0) (getD c 3 0) refl (omega arith)
 
--- the shelf, then the header
-module _ (s p : List ℕ) (code : ℕ) {a : Answer} (h : a ≡ shelfTested s) where
-  pub shelf-refused : {r : Refusal} → a ≡ Refused r → a ≡ pageTested s p code
-  unfolding pageTested
-  shelf-refused u = u ∙ sym (rw (← h, u))
-
-  pub page-asked : {b : Answer} {n : ℕ} → a ≡ Accepted → n ≡ slotsOf s → b ≡ headed s p code n → b ≡ pageTested s p code
-  unfolding pageTested
-  page-asked u q e = e ∙ sym (rw (← h, u, ← q))
-
 -- an accepted shelf is well formed, and has all its types
 pub shelf-formed : (s : List ℕ) {a : Answer} → a ≡ shelfTested s → a ≡ Accepted → wellFormed s ≡ true
 shelf-formed s h u = held (wellFormed s) ShelfNotWellFormed Accepted (sym h ∙ u) .0
@@ -89,7 +140,7 @@ pub shelf-has : (s : List ℕ) {a : Answer} → a ≡ shelfTested s → a ≡ Ac
 shelf-has s h u = omega (arith, length-formed s (shelf-formed s h u))
 
 -- what an accepted page says of the shelf
-pub asked-formed : (s p : List ℕ) (code : ℕ) → pageTested s p code ≡ Accepted → wellFormed s ≡ true
+pub tested-formed : (s p : List ℕ) (code : ℕ) → pageTested s p code ≡ Accepted → wellFormed s ≡ true
 unfolding pageTested
-asked-formed s p code e =
+tested-formed s p code e =
     held (wellFormed s) ShelfNotWellFormed Accepted (held-both (shelfTested s) (headed s p code (slotsOf s)) e .0) .0

@@ -3,9 +3,9 @@ pub mod SlotsBefore
 pub mod SlotTypes
 pub mod PagePut
 pub mod SlotBounds
-pub mod PageWritten
 pub mod SlotsOfFront
 pub mod HeaderBothWays
 pub mod ElementSlots
 pub mod SameFront
 pub mod SlotWalk
+pub mod SlotsCounted

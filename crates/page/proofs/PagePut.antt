@@ -8,6 +8,7 @@ use lib.Seq.{getD-append-add}
 use Rattle.bits.specs.Places.{fourAt, putFour}
 use Rattle.bits.specs.Rows.{joined}
 use Rattle.bits.proofs.Rows.{as-four, length-joined, joined-get, put-next}
+use Rattle.refusals.specs.Outcomes.{placed}
 use Rattle.page.specs.Slots.{slotPlace, slotsPut}
 use Rattle.page.specs.Header.{header, headPut}
 use Rattle.page.proofs.HeaderTests.{head-put}
@@ -42,6 +43,15 @@ module _ (f : ℕ → List ℕ) (h : (i : ℕ) → length (f i) ≡ 4) where
 
   pub length-page : (c : List ℕ) (code own n : ℕ) → length (header c code own n ++ joined f n) ≡ slotPlace n
   length-page c code own n = length-append (header c code own n) (joined f n) ∙ rw (length-header c code own n, length-joined f 4 h n)
+
+  -- into an output buffer that holds it, from what the calls say
+  pub page-placed : (c out : List ℕ) (code own n : ℕ) {a b : List ℕ} → slotPlace n ≤ length out → a ≡ headPut c out code own n → b ≡ slotsPut f a n
+      → b ≡ placed (header c code own n ++ joined f n) out
+  page-placed c out code own n l u v =
+      v
+      ∙ ap (λ (o : List ℕ). slotsPut f o n) u
+      ∙ page-put c out code own n l
+      ∙ ap (λ (k : ℕ). header c code own n ++ joined f n ++ drop k out) (sym (length-page c code own n))
 
   -- what stands in slot i of a page
   pub slot-read : (c : List ℕ) (code own n i : ℕ) → suc i ≤ n → fourAt (header c code own n ++ joined f n) (slotPlace i) ≡ f i

@@ -4,15 +4,14 @@ use mathlib.Core.Bool.{true}
 use mathlib.Core.List.{List}
 use Prim.Native.Nat.{ℕ, _<_}
 use native.Mathlib.Omega.{arith}
-use lib.Dec.{eqb, leb}
-use lib.ListN.{length, getD}
-use Rattle.refusals.specs.declared.Refusal.the-variants.{PageTooShort, PageCode, PageLength, Generation}
+use lib.Dec.{eqb}
+use Rattle.refusals.specs.declared.Refusal.the-variants.{Generation}
 use Rattle.refusals.specs.declared.Answer.the-variants.{Accepted}
-use Rattle.refusals.specs.Outcomes.{unless}
+use Rattle.refusals.specs.Outcomes.{unless, next}
 use Rattle.shelf_formed.specs.Formed.{frontFormed, wellFormed}
 use Rattle.shelf_formed.proofs.FrontOfShelf.{front, front-get, alike, front-alike}
 use Rattle.page.specs.Slots.{slotsOf, slotAt, slotPlace}
-use Rattle.page.specs.Header.{lengthSaid, generationOn, generationOf, headed, pageTested}
+use Rattle.page.specs.Header.{generationOn, generationOf, framed, lengthTested, generationTested, headed, pageTested}
 use Rattle.page.proofs.SlotsOfFront.{slots-same, slot-same}
 
 generation-same : (s : List ℕ) → generationOf (front s) ≡ generationOf s
@@ -28,16 +27,12 @@ module _ (s x : List ℕ) (e : front x ≡ front s) where
 
   module _ (p : List ℕ) (code : ℕ) where
     headed-alike : (n : ℕ) → headed x p code n ≡ headed s p code n
-    unfolding headed
+    unfolding headed generationTested
     headed-alike n =
         ap
-        (λ (g : ℕ).
-        unless (leb 4 (length p)) PageTooShort
-        (unless (eqb (getD p 0 0) code) PageCode
-        (unless (lengthSaid p) PageLength
-        (unless (eqb (length p) (slotPlace n)) PageLength (unless (eqb (generationOn p) g) Generation Accepted)))))
+        (λ (g : ℕ). next (framed p code) (next (lengthTested p (slotPlace n)) (unless (eqb (generationOn p) g) Generation Accepted)))
         (alike s x e generationOf (generation-same x) (generation-same s))
 
-    pub asked-alike : wellFormed s ≡ true → wellFormed x ≡ true → pageTested x p code ≡ pageTested s p code
+    pub tested-alike : wellFormed s ≡ true → wellFormed x ≡ true → pageTested x p code ≡ pageTested s p code
     unfolding pageTested
-    asked-alike w v = rw (w, v, slots-alike) (headed-alike (slotsOf s))
+    tested-alike w v = rw (w, v, slots-alike) (headed-alike (slotsOf s))

@@ -33,14 +33,24 @@ generationOn p = big (fourAt p 4)
 abbrev pub generationOf : List ℕ → ℕ
 generationOf c = big (fourAt c 0)
 
--- 2: fewer than 4 bytes; 3: another page code; 4: not page length + 4 bytes, or not those that n slots need; 5: another generation
-unfoldable pub headed : List ℕ → List ℕ → ℕ → ℕ → Answer
-headed c p code n =
+-- the frame of any page. 2: fewer than 4 bytes; 3: another page code; 4: the bytes given are not page length + 4
+unfoldable pub framed : List ℕ → ℕ → Answer
+framed p code =
     unless (leb 4 (length p)) PageTooShort
     (unless (eqb (getD p 0 0) code) PageCode
-    (unless (lengthSaid p) PageLength
-    (unless (eqb (length p) (slotPlace n)) PageLength
-    (unless (eqb (generationOn p) (generationOf c)) Generation Accepted))))
+    (unless (lengthSaid p) PageLength Accepted))
+
+-- 4: not the n bytes that the type list needs
+unfoldable pub lengthTested : List ℕ → ℕ → Answer
+lengthTested p n = unless (eqb (length p) n) PageLength Accepted
+
+-- 5: another generation code
+unfoldable pub generationTested : List ℕ → List ℕ → Answer
+generationTested c p = unless (eqb (generationOn p) (generationOf c)) Generation Accepted
+
+-- 2 to 5: the frame, the length of n slots, the generation code
+unfoldable pub headed : List ℕ → List ℕ → ℕ → ℕ → Answer
+headed c p code n = next (framed p code) (next (lengthTested p (slotPlace n)) (generationTested c p))
 
 -- 1 to 5: the shelf, and the header of a page for it
 unfoldable pub pageTested : List ℕ → List ℕ → ℕ → Answer

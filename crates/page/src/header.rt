@@ -7,20 +7,19 @@ ghost use mathlib.Core.Path.{_≡_};
 ghost use Prim.Native.Nat.{_≤_};
 ghost use lib.ListN.{length};
 ghost use Rattle.shelf.specs.Limits.{HasTypes};
-ghost use Rattle.page.specs.Header.{lengthSaid, headed, headPut};
+ghost use Rattle.page.specs.Header.{lengthSaid, framed, lengthTested, generationTested, headed, headPut};
 
 // The page says its own length.
-pub fn says_its_length(page: &[u8]) -> bool
+fn says_its_length(page: &[u8]) -> bool
     requires { ⌜ 4 ≤ length (now page) ⌝ }
     ensures { λ r. ⌜ r ≡ lengthSaid (now (page .entry)) ⌝ }
 {
     page.len() == bits::big16_at(page, 2) as usize + 4
 }
 
-// The tests that come before a page's own: length, page code, and that the page is one for these n slots and of this generation.
-pub fn test(configuration: &[u8], page: &[u8], code: u8, n: u16) -> Answer
-    requires { ⌜ HasTypes (now configuration) ⌝ }
-    ensures { λ r. ⌜ r ≡ headed (now (configuration .entry)) (now (page .entry)) code n ⌝ }
+// The frame, which every page has.
+pub fn test_frame(page: &[u8], code: u8) -> Answer
+    ensures { λ r. ⌜ r ≡ framed (now (page .entry)) code ⌝ }
 {
     if page.len() < 4 {
         return Answer::Refused(Refusal::PageTooShort);
@@ -31,13 +30,44 @@ pub fn test(configuration: &[u8], page: &[u8], code: u8, n: u16) -> Answer
     if !says_its_length(page) {
         return Answer::Refused(Refusal::PageLength);
     }
-    if page.len() != slots::slot_place(n) as usize {
+    Answer::Accepted
+}
+
+// The length that the type list needs.
+pub fn test_length(page: &[u8], needed: u32) -> Answer
+    ensures { λ r. ⌜ r ≡ lengthTested (now (page .entry)) needed ⌝ }
+{
+    if page.len() != needed as usize {
         return Answer::Refused(Refusal::PageLength);
     }
+    Answer::Accepted
+}
+
+fn test_generation(configuration: &[u8], page: &[u8]) -> Answer
+    requires { ⌜ HasTypes (now configuration) ⌝ }
+    requires { ⌜ 8 ≤ length (now page) ⌝ }
+    ensures { λ r. ⌜ r ≡ generationTested (now (configuration .entry)) (now (page .entry)) ⌝ }
+{
     if bits::big32_at(page, 4) != bits::big32_at(configuration, limits::GENERATION) {
         return Answer::Refused(Refusal::Generation);
     }
     Answer::Accepted
+}
+
+// The tests that come before a page's own: its frame, and that the page is one for these n slots and of this generation.
+pub fn test(configuration: &[u8], page: &[u8], code: u8, n: u16) -> Answer
+    requires { ⌜ HasTypes (now configuration) ⌝ }
+    ensures { λ r. ⌜ r ≡ headed (now (configuration .entry)) (now (page .entry)) code n ⌝ }
+{
+    let frame = test_frame(page, code);
+    let Answer::Accepted = frame else {
+        return frame;
+    };
+    let length = test_length(page, slots::slot_place(n));
+    let Answer::Accepted = length else {
+        return length;
+    };
+    test_generation(configuration, page)
 }
 
 // Writes the header of a page with n slots.

@@ -1,1 +1,3 @@
 pub mod AcceptedTests
+pub mod Left
+pub mod Stages

@@ -1,4 +1,5 @@
 -- How a call comes to its answer, and what it leaves in lent memory. Assumes nothing.
+use mathlib.Core.Path.{_≡_}
 use mathlib.Core.Bool.{Bool, true, false}
 use mathlib.Core.List.{List, _++_}
 use Prim.Native.Nat.{ℕ}
@@ -9,6 +10,8 @@ use Rattle.refusals.specs.declared.Refusal.{Refusal}
 use Rattle.refusals.specs.declared.Refusal.the-variants.{OutputTooShort}
 use Rattle.refusals.specs.declared.Answer.{Answer}
 use Rattle.refusals.specs.declared.Answer.the-variants as answer
+use Rattle.refusals.specs.declared.Tested.{Tested}
+use Rattle.refusals.specs.declared.Tested.the-variants as tested
 use Rattle.refusals.specs.declared.Written.{Written}
 use Rattle.refusals.specs.declared.Written.the-variants as written
 
@@ -24,6 +27,15 @@ next (answer.Refused r) rest = answer.Refused r
 abbrev pub accepts : Answer → Bool
 accepts answer.Accepted = true
 accepts (answer.Refused r) = false
+
+-- the answer of tests that counted n slots
+abbrev pub withSlots : Answer → ℕ → Tested
+withSlots answer.Accepted n = tested.Slots n
+withSlots (answer.Refused r) n = tested.Refused r
+
+abbrev pub answerOf : Tested → Answer
+answerOf (tested.Slots n) = answer.Accepted
+answerOf (tested.Refused r) = answer.Refused r
 
 -- a page is written if no test refused it and the output buffer holds it
 abbrev pub fitted : ℕ → ℕ → Written
@@ -43,7 +55,25 @@ abbrev pub outAfter : Written → List ℕ → List ℕ → List ℕ
 outAfter (written.Bytes n) page out = page ++ drop n out
 outAfter (written.Refused r) page out = out
 
--- what a reader hands back, in a place that may be longer; a refused read hands back nothing
+-- bytes put into a place that may be longer
+abbrev pub placed : List ℕ → List ℕ → List ℕ
+placed told old = told ++ drop (length told) old
+
+-- what a reader hands back; a refused read hands back nothing
 abbrev pub recordAfter : Answer → List ℕ → List ℕ → List ℕ
-recordAfter answer.Accepted told old = told ++ drop (length told) old
+recordAfter answer.Accepted told old = placed told old
 recordAfter (answer.Refused r) told old = old
+
+-- What is promised of a call, by what it leaves behind: r is its answer, and o the lent memory afterwards. Each settles both.
+
+-- a page is written into the output buffer `out`, if the tests accept it and it fits
+abbrev pub WritesPage : Answer → List ℕ → List ℕ → Written → List ℕ → Type 0
+WritesPage a page out r o = (r ≡ writes a page out) × (o ≡ outAfter r page out)
+
+-- a record is handed back in the place of `old`
+abbrev pub HandsBack : Answer → List ℕ → List ℕ → Answer → List ℕ → Type 0
+HandsBack a told old r o = (r ≡ a) × (o ≡ recordAfter r told old)
+
+-- a shelf is changed to what it is after the call
+abbrev pub Changes : Answer → List ℕ → Answer → List ℕ → Type 0
+Changes a after r o = (r ≡ a) × (o ≡ after)

@@ -1,9 +1,9 @@
-// The refusals, and the answers of calls: of one that tests or acts, and of one that writes.
+// The refusals, and the answers of calls: of one that tests or acts, of tests that count the slots, and of one that writes.
 //
 // A refusal is a value with a number; every promise speaks of the value, and `numberOf` says which number it is.
 ghost use mathlib.Core.Path.{_≡_};
 ghost use Rattle.refusals.specs.Numbers.{numberOf, answerNumber, writtenNumber, bytesWritten};
-ghost use Rattle.refusals.specs.Outcomes.{fitted, passedOn};
+ghost use Rattle.refusals.specs.Outcomes.{withSlots, answerOf, fitted, passedOn};
 
 pub enum Refusal {
     ShelfNotWellFormed,
@@ -21,6 +21,12 @@ pub enum Refusal {
 
 pub enum Answer {
     Accepted,
+    Refused(Refusal),
+}
+
+// What tests come to that count the slots of a page on the way.
+pub enum Tested {
+    Slots(u16),
     Refused(Refusal),
 }
 
@@ -58,6 +64,27 @@ impl Answer {
             return 0;
         };
         refusal.number()
+    }
+}
+
+impl Tested {
+    // The answer of the tests behind the count of n slots.
+    pub fn of(answer: Answer, n: u16) -> Tested
+        ensures { λ r. ⌜ r ≡ withSlots answer n ⌝ }
+    {
+        let Answer::Refused(refusal) = answer else {
+            return Tested::Slots(n);
+        };
+        Tested::Refused(refusal)
+    }
+
+    pub fn answer(self) -> Answer
+        ensures { λ r. ⌜ r ≡ answerOf self ⌝ }
+    {
+        let Tested::Refused(refusal) = self else {
+            return Answer::Accepted;
+        };
+        Answer::Refused(refusal)
     }
 }
 

@@ -1,47 +1,41 @@
--- What C is told of an answer: its number, the bytes written, and what is left in lent memory. Assumes nothing.
+-- What C is told of an answer, one law for each shape of a call. Assumes nothing.
 use mathlib.Core.Path.{_≡_, sym, ap, _∙_}
-use mathlib.Core.Bool.{true, false}
 use mathlib.Core.List.{List}
 use Prim.Native.Nat.{ℕ}
-use lib.ListN.{length}
-use Rattle.refusals.specs.declared.Refusal.the-variants.{ShelfNotWellFormed}
 use Rattle.refusals.specs.declared.Answer.{Answer}
+use Rattle.refusals.specs.declared.Answer.the-variants.{Accepted}
 use Rattle.refusals.specs.declared.Written.{Written}
-use Rattle.refusals.specs.declared.Written.the-variants as written
 use Rattle.refusals.specs.Numbers.{answerNumber, writtenNumber, bytesWritten}
-use Rattle.refusals.specs.Outcomes.{fitted, writes, outAfter, recordAfter}
-use Rattle.shelf_formed.specs.Formed.{wellFormed, configurationFormed}
-use Rattle.page.specs.Header.{shelfTested, configurationTested}
+use Rattle.refusals.specs.Outcomes.{writes, outAfter, recordAfter, WritesPage}
 use Rattle.build_page.specs.Outcome.{builtNumber, bytesBuilt, selectsBuilt}
 use Rattle.build_page.proofs.PromiseKept.{settles}
-use Rattle.ses.specs.Calls.{BuiltForC}
+use Rattle.ses.specs.Calls.{AnswersForC, WritesForC, HandsBackForC, ChangesForC, BuiltForC}
 
-module _ {w : Written} (v : Written) (page out : List ℕ) {n b : ℕ} {o : List ℕ} where
-  pub written-told : w ≡ v → n ≡ writtenNumber w → b ≡ bytesWritten w → o ≡ outAfter w page out
-      → (n ≡ writtenNumber v) × ((b ≡ bytesWritten v) × (o ≡ outAfter v page out))
-  written-told e p q r = (rw e at p, (rw e at q, rw e at r))
+-- each shape told by the tests and the page or record alone, so that no two outcomes keep one promise
+module _ (a : Answer) where
+  pub answer-told : {n : ℕ} → AnswersForC a n → n ≡ answerNumber a
+  answer-told h = h .2 ∙ ap answerNumber (h .1)
 
-module _ {a : Answer} (v : Answer) (told old : List ℕ) {n : ℕ} {o : List ℕ} where
-  pub read-told : a ≡ v → n ≡ answerNumber a → o ≡ recordAfter a told old → (n ≡ answerNumber v) × (o ≡ recordAfter v told old)
-  read-told e p r = (rw e at p, rw e at r)
+  module _ (page out : List ℕ) where
+    pub written-told : {n b : ℕ} {o : List ℕ} → WritesForC a page out n b o
+        → (n ≡ writtenNumber (writes a page out)) × (b ≡ bytesWritten (writes a page out)) × (o ≡ outAfter (writes a page out) page out)
+    written-told h =
+        let e = h .1 .0 in
+        (h .2 ∙ ap writtenNumber e, h .3 ∙ ap bytesWritten e, h .1 .1 ∙ ap (λ (r : Written). outAfter r page out) e)
 
--- a page is written where its shelf or configuration is well formed
-module _ (s page out : List ℕ) where
-  pub shelf-refused : wellFormed s ≡ false → written.Refused ShelfNotWellFormed ≡ writes (shelfTested s) page out
-  shelf-refused e = rw e
+    pub record-told : {n : ℕ} {o : List ℕ} → HandsBackForC a page out n o → (n ≡ answerNumber a) × (o ≡ recordAfter a page out)
+    record-told h = let e = h .1 .0 in (h .2 ∙ ap answerNumber e, h .1 .1 ∙ ap (λ (r : Answer). recordAfter r page out) e)
 
-  pub shelf-taken : {w : Written} → wellFormed s ≡ true → w ≡ fitted (length page) (length out) → w ≡ writes (shelfTested s) page out
-  shelf-taken e q = rw e q
+  pub change-told : (changed : List ℕ) {n : ℕ} {o : List ℕ} → ChangesForC a changed n o → (n ≡ answerNumber a) × (o ≡ changed)
+  change-told changed h = (h .2 ∙ ap answerNumber (h .1 .0), h .1 .1)
 
-  pub configuration-refused : configurationFormed s ≡ false → written.Refused ShelfNotWellFormed ≡ writes (configurationTested s) page out
-  configuration-refused e = rw e
-
-  pub configuration-taken : {w : Written} → configurationFormed s ≡ true → w ≡ fitted (length page) (length out) → w ≡ writes (configurationTested s) page out
-  configuration-taken e q = rw e q
-
--- what C is told of a page that is built is settled too
+-- of a page that is built, which the tests alone do not tell
 module _ (s w out : List ℕ) where
   pub built-settles : (n m : ℕ) (b c : ℕ) (k l : ℕ) (y z : List ℕ) → BuiltForC s w out n b k y → BuiltForC s w out m c l z → (n ≡ m) × (b ≡ c) × (k ≡ l) × (y ≡ z)
   built-settles n m b c k l y z h g =
       let e = settles s w out (h .0) (g .0) y z (h .1) (g .1) in
       (h .2 ∙ ap builtNumber (e .0) ∙ sym (g .2), h .3 ∙ ap bytesBuilt (e .0) ∙ sym (g .3), h .4 ∙ ap selectsBuilt (e .0) ∙ sym (g .4), e .1)
+
+-- a page that is written from a front, as the call says it that tested the whole shelf or configuration
+pub front-written : (a : Answer) (page out : List ℕ) {r : Written} {o : List ℕ} → a ≡ Accepted → WritesPage Accepted page out r o → WritesPage a page out r o
+front-written a page out e h = (h .0 ∙ sym (rw e), h .1)

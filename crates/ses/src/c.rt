@@ -1,9 +1,6 @@
 // The public calls for C: a refusal is told by its number, bytes written through a reference.
 use shelf::limits;
-ghost use mathlib.Core.Path.{_≡_};
-ghost use Rattle.refusals.specs.Numbers.{answerNumber, writtenNumber, bytesWritten};
-ghost use Rattle.refusals.specs.Outcomes.{outAfter, recordAfter};
-ghost use Rattle.page.specs.Header.{shelfTested};
+ghost use Rattle.page.specs.Header.{shelfTested, configurationTested};
 ghost use Rattle.configuration_page.specs.Page.{configurationPage};
 ghost use Rattle.configuration_page.specs.Read.{configurationRead};
 ghost use Rattle.configuration_page.specs.Configuration.{configurationOf};
@@ -13,25 +10,21 @@ ghost use Rattle.status_rewritten.specs.Rewritten as statusAgain;
 ghost use Rattle.threshold_page_in.specs.Page.{thresholdPage};
 ghost use Rattle.threshold_page_in.specs.Read.{thresholdRead, thresholdRecord};
 ghost use Rattle.threshold_page_in.specs.Rewritten as thresholdsAgain;
-ghost use Rattle.bits.specs.Choice.{pick};
 ghost use Rattle.control_page.specs.Tests as control;
-ghost use Rattle.control_page.specs.Brought.{broughtTo, withSettings};
+ghost use Rattle.control_page.specs.Brought as controlled;
 ghost use Rattle.threshold_page_out.specs.Tests as thresholds;
-ghost use Rattle.threshold_page_out.specs.Taken.{takenFrom, withThresholds};
-ghost use Rattle.ses.specs.Calls.{configurationWritten, statusWritten, thresholdsWritten, configurationRewritten, statusRewritten, thresholdsRewritten, BuiltForC};
+ghost use Rattle.ses.specs.Calls.{AnswersForC, WritesForC, HandsBackForC, ChangesForC, BuiltForC};
 
 #[no_mangle]
 pub extern "C" fn ses_check(shelf: &[u8]) -> u8
-    ensures { λ r. ⌜ r ≡ answerNumber (shelfTested (now (shelf .entry))) ⌝ }
+    ensures { λ r. ⌜ AnswersForC (shelfTested (now (shelf .entry))) r ⌝ }
 {
     crate::check(shelf).number()
 }
 
 #[no_mangle]
 pub extern "C" fn ses_write_configuration(shelf: &[u8], out: &mut [u8], written: &mut u32) -> u8
-    ensures { λ r. ⌜ r ≡ writtenNumber (configurationWritten (now (shelf .entry)) (now (out .entry))) ⌝ }
-    ensures { λ _. ⌜ now (written .exit) ≡ bytesWritten (configurationWritten (now (shelf .entry)) (now (out .entry))) ⌝ }
-    ensures { λ _. ⌜ now (out .exit) ≡ outAfter (configurationWritten (now (shelf .entry)) (now (out .entry))) (configurationPage (now (shelf .entry))) (now (out .entry)) ⌝ }
+    ensures { λ r. ⌜ WritesForC (shelfTested (now (shelf .entry))) (configurationPage (now (shelf .entry))) (now (out .entry)) r (now (written .exit)) (now (out .exit)) ⌝ }
 {
     let answer = crate::write_configuration(shelf, out);
     *written = answer.bytes();
@@ -40,9 +33,7 @@ pub extern "C" fn ses_write_configuration(shelf: &[u8], out: &mut [u8], written:
 
 #[no_mangle]
 pub extern "C" fn ses_write_status(shelf: &[u8], out: &mut [u8], written: &mut u32) -> u8
-    ensures { λ r. ⌜ r ≡ writtenNumber (statusWritten (now (shelf .entry)) (now (out .entry))) ⌝ }
-    ensures { λ _. ⌜ now (written .exit) ≡ bytesWritten (statusWritten (now (shelf .entry)) (now (out .entry))) ⌝ }
-    ensures { λ _. ⌜ now (out .exit) ≡ outAfter (statusWritten (now (shelf .entry)) (now (out .entry))) (statusPage (now (shelf .entry))) (now (out .entry)) ⌝ }
+    ensures { λ r. ⌜ WritesForC (shelfTested (now (shelf .entry))) (statusPage (now (shelf .entry))) (now (out .entry)) r (now (written .exit)) (now (out .exit)) ⌝ }
 {
     let answer = crate::write_status(shelf, out);
     *written = answer.bytes();
@@ -51,9 +42,7 @@ pub extern "C" fn ses_write_status(shelf: &[u8], out: &mut [u8], written: &mut u
 
 #[no_mangle]
 pub extern "C" fn ses_write_thresholds(shelf: &[u8], out: &mut [u8], written: &mut u32) -> u8
-    ensures { λ r. ⌜ r ≡ writtenNumber (thresholdsWritten (now (shelf .entry)) (now (out .entry))) ⌝ }
-    ensures { λ _. ⌜ now (written .exit) ≡ bytesWritten (thresholdsWritten (now (shelf .entry)) (now (out .entry))) ⌝ }
-    ensures { λ _. ⌜ now (out .exit) ≡ outAfter (thresholdsWritten (now (shelf .entry)) (now (out .entry))) (thresholdPage (now (shelf .entry))) (now (out .entry)) ⌝ }
+    ensures { λ r. ⌜ WritesForC (shelfTested (now (shelf .entry))) (thresholdPage (now (shelf .entry))) (now (out .entry)) r (now (written .exit)) (now (out .exit)) ⌝ }
 {
     let answer = crate::write_thresholds(shelf, out);
     *written = answer.bytes();
@@ -65,8 +54,7 @@ pub extern "C" fn ses_read_configuration(
     page: &[u8],
     configuration: &mut [u8; limits::CONFIGURATION],
 ) -> u8
-    ensures { λ r. ⌜ r ≡ answerNumber (configurationRead (now (page .entry))) ⌝ }
-    ensures { λ _. ⌜ now (configuration .exit) ≡ recordAfter (configurationRead (now (page .entry))) (configurationOf (now (page .entry))) (now (configuration .entry)) ⌝ }
+    ensures { λ r. ⌜ HandsBackForC (configurationRead (now (page .entry))) (configurationOf (now (page .entry))) (now (configuration .entry)) r (now (configuration .exit)) ⌝ }
 {
     crate::read_configuration(page, configuration).number()
 }
@@ -77,8 +65,7 @@ pub extern "C" fn ses_read_status(
     page: &[u8],
     fields: &mut [u8; status_record::LENGTH],
 ) -> u8
-    ensures { λ r. ⌜ r ≡ answerNumber (statusRead (now (configuration .entry)) (now (page .entry))) ⌝ }
-    ensures { λ _. ⌜ now (fields .exit) ≡ recordAfter (statusRead (now (configuration .entry)) (now (page .entry))) (statusRecord (now (configuration .entry)) (now (page .entry))) (now (fields .entry)) ⌝ }
+    ensures { λ r. ⌜ HandsBackForC (statusRead (now (configuration .entry)) (now (page .entry))) (statusRecord (now (configuration .entry)) (now (page .entry))) (now (fields .entry)) r (now (fields .exit)) ⌝ }
 {
     crate::read_status(configuration, page, fields).number()
 }
@@ -89,8 +76,7 @@ pub extern "C" fn ses_read_thresholds(
     page: &[u8],
     fields: &mut [u8; threshold_page_in::reading::LENGTH],
 ) -> u8
-    ensures { λ r. ⌜ r ≡ answerNumber (thresholdRead (now (configuration .entry)) (now (page .entry))) ⌝ }
-    ensures { λ _. ⌜ now (fields .exit) ≡ recordAfter (thresholdRead (now (configuration .entry)) (now (page .entry))) (thresholdRecord (now (configuration .entry)) (now (page .entry))) (now (fields .entry)) ⌝ }
+    ensures { λ r. ⌜ HandsBackForC (thresholdRead (now (configuration .entry)) (now (page .entry))) (thresholdRecord (now (configuration .entry)) (now (page .entry))) (now (fields .entry)) r (now (fields .exit)) ⌝ }
 {
     crate::read_thresholds(configuration, page, fields).number()
 }
@@ -101,9 +87,7 @@ pub extern "C" fn ses_rewrite_configuration(
     out: &mut [u8],
     written: &mut u32,
 ) -> u8
-    ensures { λ r. ⌜ r ≡ writtenNumber (configurationRewritten (now (configuration .entry)) (now (out .entry))) ⌝ }
-    ensures { λ _. ⌜ now (written .exit) ≡ bytesWritten (configurationRewritten (now (configuration .entry)) (now (out .entry))) ⌝ }
-    ensures { λ _. ⌜ now (out .exit) ≡ outAfter (configurationRewritten (now (configuration .entry)) (now (out .entry))) (configurationPage (now (configuration .entry))) (now (out .entry)) ⌝ }
+    ensures { λ r. ⌜ WritesForC (configurationTested (now (configuration .entry))) (configurationPage (now (configuration .entry))) (now (out .entry)) r (now (written .exit)) (now (out .exit)) ⌝ }
 {
     let answer = crate::rewrite_configuration(configuration, out);
     *written = answer.bytes();
@@ -117,9 +101,7 @@ pub extern "C" fn ses_rewrite_status(
     out: &mut [u8],
     written: &mut u32,
 ) -> u8
-    ensures { λ r. ⌜ r ≡ writtenNumber (statusRewritten (now (configuration .entry)) (now (fields .entry)) (now (out .entry))) ⌝ }
-    ensures { λ _. ⌜ now (written .exit) ≡ bytesWritten (statusRewritten (now (configuration .entry)) (now (fields .entry)) (now (out .entry))) ⌝ }
-    ensures { λ _. ⌜ now (out .exit) ≡ outAfter (statusRewritten (now (configuration .entry)) (now (fields .entry)) (now (out .entry))) (statusAgain.pageAgain (now (configuration .entry)) (now (fields .entry))) (now (out .entry)) ⌝ }
+    ensures { λ r. ⌜ WritesForC (statusAgain.recordTested (now (configuration .entry)) (now (fields .entry))) (statusAgain.pageAgain (now (configuration .entry)) (now (fields .entry))) (now (out .entry)) r (now (written .exit)) (now (out .exit)) ⌝ }
 {
     let answer = crate::rewrite_status(configuration, fields, out);
     *written = answer.bytes();
@@ -133,9 +115,7 @@ pub extern "C" fn ses_rewrite_thresholds(
     out: &mut [u8],
     written: &mut u32,
 ) -> u8
-    ensures { λ r. ⌜ r ≡ writtenNumber (thresholdsRewritten (now (configuration .entry)) (now (fields .entry)) (now (out .entry))) ⌝ }
-    ensures { λ _. ⌜ now (written .exit) ≡ bytesWritten (thresholdsRewritten (now (configuration .entry)) (now (fields .entry)) (now (out .entry))) ⌝ }
-    ensures { λ _. ⌜ now (out .exit) ≡ outAfter (thresholdsRewritten (now (configuration .entry)) (now (fields .entry)) (now (out .entry))) (thresholdsAgain.pageAgain (now (configuration .entry)) (now (fields .entry))) (now (out .entry)) ⌝ }
+    ensures { λ r. ⌜ WritesForC (thresholdsAgain.recordTested (now (configuration .entry)) (now (fields .entry))) (thresholdsAgain.pageAgain (now (configuration .entry)) (now (fields .entry))) (now (out .entry)) r (now (written .exit)) (now (out .exit)) ⌝ }
 {
     let answer = crate::rewrite_thresholds(configuration, fields, out);
     *written = answer.bytes();
@@ -144,16 +124,14 @@ pub extern "C" fn ses_rewrite_thresholds(
 
 #[no_mangle]
 pub extern "C" fn ses_apply_control(shelf: &mut [u8], page: &[u8]) -> u8
-    ensures { λ r. ⌜ r ≡ answerNumber (control.controlTested (now (shelf .entry)) (now (page .entry))) ⌝ }
-    ensures { λ _. ⌜ now (shelf .exit) ≡ pick (control.valid (now (shelf .entry)) (now (page .entry))) (withSettings (now (shelf .entry)) (broughtTo (now (shelf .entry)) (now (page .entry)))) (now (shelf .entry)) ⌝ }
+    ensures { λ r. ⌜ ChangesForC (control.controlTested (now (shelf .entry)) (now (page .entry))) (controlled.after (now (shelf .entry)) (now (page .entry))) r (now (shelf .exit)) ⌝ }
 {
     crate::apply_control(shelf, page).number()
 }
 
 #[no_mangle]
 pub extern "C" fn ses_apply_thresholds(shelf: &mut [u8], page: &[u8]) -> u8
-    ensures { λ r. ⌜ r ≡ answerNumber (thresholds.thresholdsTested (now (shelf .entry)) (now (page .entry))) ⌝ }
-    ensures { λ _. ⌜ now (shelf .exit) ≡ pick (thresholds.valid (now (shelf .entry)) (now (page .entry))) (withThresholds (now (shelf .entry)) (takenFrom (now (shelf .entry)) (now (page .entry)))) (now (shelf .entry)) ⌝ }
+    ensures { λ r. ⌜ ChangesForC (thresholds.thresholdsTested (now (shelf .entry)) (now (page .entry))) (thresholds.after (now (shelf .entry)) (now (page .entry))) r (now (shelf .exit)) ⌝ }
 {
     crate::apply_thresholds(shelf, page).number()
 }

@@ -4,14 +4,14 @@
 pub mod c;
 
 use build_page::built::Built;
+use page::testing;
 use refusals::Answer;
-use refusals::Refusal;
+use refusals::Tested;
 use refusals::Written;
 use shelf::limits;
-use shelf_formed::Opened;
 ghost use mathlib.Core.Path.{_≡_};
-ghost use Rattle.refusals.specs.Outcomes.{outAfter, recordAfter};
-ghost use Rattle.page.specs.Header.{shelfTested};
+ghost use Rattle.refusals.specs.Outcomes.{WritesPage, HandsBack, Changes};
+ghost use Rattle.page.specs.Header.{shelfTested, configurationTested};
 ghost use Rattle.configuration_page.specs.Page.{configurationPage};
 ghost use Rattle.configuration_page.specs.Read.{configurationRead};
 ghost use Rattle.configuration_page.specs.Configuration.{configurationOf};
@@ -21,49 +21,42 @@ ghost use Rattle.status_rewritten.specs.Rewritten as statusAgain;
 ghost use Rattle.threshold_page_in.specs.Page.{thresholdPage};
 ghost use Rattle.threshold_page_in.specs.Read.{thresholdRead, thresholdRecord};
 ghost use Rattle.threshold_page_in.specs.Rewritten as thresholdsAgain;
-ghost use Rattle.bits.specs.Choice.{pick};
 ghost use Rattle.control_page.specs.Tests as control;
-ghost use Rattle.control_page.specs.Brought.{broughtTo, withSettings};
+ghost use Rattle.control_page.specs.Brought as controlled;
 ghost use Rattle.threshold_page_out.specs.Tests as thresholds;
-ghost use Rattle.threshold_page_out.specs.Taken.{takenFrom, withThresholds};
 ghost use Rattle.build_page.specs.Promise.{Promised};
-ghost use Rattle.ses.specs.Calls.{configurationWritten, statusWritten, thresholdsWritten, configurationRewritten, statusRewritten, thresholdsRewritten};
 
 // Is this block a well-formed shelf?
 pub fn check(shelf: &[u8]) -> Answer
     ensures { λ r. ⌜ r ≡ shelfTested (now (shelf .entry)) ⌝ }
 {
-    page::testing::shelf(shelf)
+    testing::shelf(shelf)
 }
 
 pub fn write_configuration(shelf: &[u8], out: &mut [u8]) -> Written
-    ensures { λ r. ⌜ r ≡ configurationWritten (now (shelf .entry)) (now (out .entry)) ⌝ }
-    ensures { λ r. ⌜ now (out .exit) ≡ outAfter r (configurationPage (now (shelf .entry))) (now (out .entry)) ⌝ }
+    ensures { λ r. ⌜ WritesPage (shelfTested (now (shelf .entry))) (configurationPage (now (shelf .entry))) (now (out .entry)) r (now (out .exit)) ⌝ }
 {
-    let opened = shelf_formed::open_shelf(shelf);
-    let Opened::Shelf(_) = opened else {
-        return Written::Refused(Refusal::ShelfNotWellFormed);
+    let tested = testing::shelf_slots(shelf);
+    let Tested::Slots(_) = tested else {
+        return Written::refused(tested.answer());
     };
     configuration_page::writing::write(shelf, out)
 }
 
 pub fn write_status(shelf: &[u8], out: &mut [u8]) -> Written
-    ensures { λ r. ⌜ r ≡ statusWritten (now (shelf .entry)) (now (out .entry)) ⌝ }
-    ensures { λ r. ⌜ now (out .exit) ≡ outAfter r (statusPage (now (shelf .entry))) (now (out .entry)) ⌝ }
+    ensures { λ r. ⌜ WritesPage (shelfTested (now (shelf .entry))) (statusPage (now (shelf .entry))) (now (out .entry)) r (now (out .exit)) ⌝ }
 {
     status_page::writing::write(shelf, out)
 }
 
 pub fn write_thresholds(shelf: &[u8], out: &mut [u8]) -> Written
-    ensures { λ r. ⌜ r ≡ thresholdsWritten (now (shelf .entry)) (now (out .entry)) ⌝ }
-    ensures { λ r. ⌜ now (out .exit) ≡ outAfter r (thresholdPage (now (shelf .entry))) (now (out .entry)) ⌝ }
+    ensures { λ r. ⌜ WritesPage (shelfTested (now (shelf .entry))) (thresholdPage (now (shelf .entry))) (now (out .entry)) r (now (out .exit)) ⌝ }
 {
     threshold_page_in::writing::write(shelf, out)
 }
 
 pub fn read_configuration(page: &[u8], configuration: &mut [u8; limits::CONFIGURATION]) -> Answer
-    ensures { λ r. ⌜ r ≡ configurationRead (now (page .entry)) ⌝ }
-    ensures { λ r. ⌜ now (configuration .exit) ≡ recordAfter r (configurationOf (now (page .entry))) (now (configuration .entry)) ⌝ }
+    ensures { λ r. ⌜ HandsBack (configurationRead (now (page .entry))) (configurationOf (now (page .entry))) (now (configuration .entry)) r (now (configuration .exit)) ⌝ }
 {
     configuration_page::reading::read(page, configuration)
 }
@@ -73,8 +66,7 @@ pub fn read_status(
     page: &[u8],
     fields: &mut [u8; status_record::LENGTH],
 ) -> Answer
-    ensures { λ r. ⌜ r ≡ statusRead (now (configuration .entry)) (now (page .entry)) ⌝ }
-    ensures { λ r. ⌜ now (fields .exit) ≡ recordAfter r (statusRecord (now (configuration .entry)) (now (page .entry))) (now (fields .entry)) ⌝ }
+    ensures { λ r. ⌜ HandsBack (statusRead (now (configuration .entry)) (now (page .entry))) (statusRecord (now (configuration .entry)) (now (page .entry))) (now (fields .entry)) r (now (fields .exit)) ⌝ }
 {
     status_page::reading::read(configuration, page, fields)
 }
@@ -84,20 +76,18 @@ pub fn read_thresholds(
     page: &[u8],
     fields: &mut [u8; threshold_page_in::reading::LENGTH],
 ) -> Answer
-    ensures { λ r. ⌜ r ≡ thresholdRead (now (configuration .entry)) (now (page .entry)) ⌝ }
-    ensures { λ r. ⌜ now (fields .exit) ≡ recordAfter r (thresholdRecord (now (configuration .entry)) (now (page .entry))) (now (fields .entry)) ⌝ }
+    ensures { λ r. ⌜ HandsBack (thresholdRead (now (configuration .entry)) (now (page .entry))) (thresholdRecord (now (configuration .entry)) (now (page .entry))) (now (fields .entry)) r (now (fields .exit)) ⌝ }
 {
     threshold_page_in::reading::read(configuration, page, fields)
 }
 
 // The `rewrite` calls write again what a reader handed back.
 pub fn rewrite_configuration(configuration: &[u8], out: &mut [u8]) -> Written
-    ensures { λ r. ⌜ r ≡ configurationRewritten (now (configuration .entry)) (now (out .entry)) ⌝ }
-    ensures { λ r. ⌜ now (out .exit) ≡ outAfter r (configurationPage (now (configuration .entry))) (now (out .entry)) ⌝ }
+    ensures { λ r. ⌜ WritesPage (configurationTested (now (configuration .entry))) (configurationPage (now (configuration .entry))) (now (out .entry)) r (now (out .exit)) ⌝ }
 {
-    let opened = shelf_formed::open_configuration(configuration);
-    let Opened::Shelf(_) = opened else {
-        return Written::Refused(Refusal::ShelfNotWellFormed);
+    let tested = testing::configuration_slots(configuration);
+    let Tested::Slots(_) = tested else {
+        return Written::refused(tested.answer());
     };
     configuration_page::writing::write(configuration, out)
 }
@@ -107,8 +97,7 @@ pub fn rewrite_status(
     fields: &[u8; status_record::LENGTH],
     out: &mut [u8],
 ) -> Written
-    ensures { λ r. ⌜ r ≡ statusRewritten (now (configuration .entry)) (now (fields .entry)) (now (out .entry)) ⌝ }
-    ensures { λ r. ⌜ now (out .exit) ≡ outAfter r (statusAgain.pageAgain (now (configuration .entry)) (now (fields .entry))) (now (out .entry)) ⌝ }
+    ensures { λ r. ⌜ WritesPage (statusAgain.recordTested (now (configuration .entry)) (now (fields .entry))) (statusAgain.pageAgain (now (configuration .entry)) (now (fields .entry))) (now (out .entry)) r (now (out .exit)) ⌝ }
 {
     status_rewritten::write(configuration, fields, out)
 }
@@ -118,23 +107,20 @@ pub fn rewrite_thresholds(
     fields: &[u8; threshold_page_in::reading::LENGTH],
     out: &mut [u8],
 ) -> Written
-    ensures { λ r. ⌜ r ≡ thresholdsRewritten (now (configuration .entry)) (now (fields .entry)) (now (out .entry)) ⌝ }
-    ensures { λ r. ⌜ now (out .exit) ≡ outAfter r (thresholdsAgain.pageAgain (now (configuration .entry)) (now (fields .entry))) (now (out .entry)) ⌝ }
+    ensures { λ r. ⌜ WritesPage (thresholdsAgain.recordTested (now (configuration .entry)) (now (fields .entry))) (thresholdsAgain.pageAgain (now (configuration .entry)) (now (fields .entry))) (now (out .entry)) r (now (out .exit)) ⌝ }
 {
     threshold_page_in::rewriting::write(configuration, fields, out)
 }
 
 // The `apply` calls act on the shelf in place, and on all of it or nothing.
 pub fn apply_control(shelf: &mut [u8], page: &[u8]) -> Answer
-    ensures { λ r. ⌜ r ≡ control.controlTested (now (shelf .entry)) (now (page .entry)) ⌝ }
-    ensures { λ _. ⌜ now (shelf .exit) ≡ pick (control.valid (now (shelf .entry)) (now (page .entry))) (withSettings (now (shelf .entry)) (broughtTo (now (shelf .entry)) (now (page .entry)))) (now (shelf .entry)) ⌝ }
+    ensures { λ r. ⌜ Changes (control.controlTested (now (shelf .entry)) (now (page .entry))) (controlled.after (now (shelf .entry)) (now (page .entry))) r (now (shelf .exit)) ⌝ }
 {
     control_page::apply(shelf, page)
 }
 
 pub fn apply_thresholds(shelf: &mut [u8], page: &[u8]) -> Answer
-    ensures { λ r. ⌜ r ≡ thresholds.thresholdsTested (now (shelf .entry)) (now (page .entry)) ⌝ }
-    ensures { λ _. ⌜ now (shelf .exit) ≡ pick (thresholds.valid (now (shelf .entry)) (now (page .entry))) (withThresholds (now (shelf .entry)) (takenFrom (now (shelf .entry)) (now (page .entry)))) (now (shelf .entry)) ⌝ }
+    ensures { λ r. ⌜ Changes (thresholds.thresholdsTested (now (shelf .entry)) (now (page .entry))) (thresholds.after (now (shelf .entry)) (now (page .entry))) r (now (shelf .exit)) ⌝ }
 {
     threshold_page_out::apply(shelf, page)
 }

@@ -3,31 +3,34 @@ use mathlib.Core.Path.{_≡_, refl, sym, ap, _∙_}
 use mathlib.Core.Bool.{Bool, true, false}
 use mathlib.Core.List.{List, [], _∷_, _++_}
 use Prim.Native.Nat.{ℕ, _+_, _≤_}
+use native.Mathlib.Omega.{arith}
 use lib.Dec.{eqb}
 use lib.ListN.{length, getD, drop}
+use borrow.Author.Tests.{eq-eqb, ne-eqb, eqb-true}
 use Rattle.bits.specs.Choice.{pick}
 use Rattle.bits.specs.Places.{fourAt}
-use Rattle.refusals.specs.declared.Refusal.{Refusal}
 use Rattle.refusals.specs.declared.Refusal.the-variants.{ShelfNotWellFormed, NotAllowed}
 use Rattle.refusals.specs.declared.Answer.{Answer}
 use Rattle.refusals.specs.declared.Answer.the-variants as answer
-use Rattle.refusals.specs.declared.Written.{Written}
-use Rattle.refusals.specs.declared.Written.the-variants as written
-use Rattle.refusals.specs.Outcomes.{fitted, writes, outAfter, recordAfter}
-use Rattle.shelf_formed.specs.Formed.{wellFormed, configurationFormed}
+use Rattle.refusals.specs.Outcomes.{unless, next, placed}
+use Rattle.refusals.proofs.AcceptedTests.{held, held-both}
+use Rattle.shelf.specs.Limits.{mostTypes, mostElements}
+use Rattle.shelf_formed.specs.Formed.{HasFront, configurationFormed}
 use Rattle.element.specs.Status.{codeAlone, entryOf, statusBytes}
 use Rattle.element.proofs.TypeStatus.{bytes-length, entry-length}
 use Rattle.page.specs.declared.slots.Slot.{Slot}
 use Rattle.page.specs.Slots.{slotsOf, slotAt, slotPlace, slotsPut}
-use Rattle.page.specs.Header.{headed, shelfTested}
+use Rattle.page.specs.Header.{configurationTested, headed}
 use Rattle.page.specs.Header as pages
-use Rattle.page.proofs.PageWritten.{page-fits, page-out}
+use Rattle.page.proofs.SlotBounds.{configuration-there, slots-bound}
+use Rattle.page.proofs.HeaderBothWays.{length-tested}
+use Rattle.page.proofs.PagePut.{page-placed, length-page}
 use Rattle.status_record.proofs.WholeRecord.{record-put}
 use Rattle.shelf_status.specs.declared.PageBits.{PageBits}
 use Rattle.shelf_status.specs.ShelfStatus.{shownIn, pageBits, bitsByte}
 use Rattle.status_page.specs.Page.{slotBytes, slotRow, pageWith, statusPage}
 use Rattle.status_record.specs.Entries.{recordWith, entryPlace, headPut, entriesPut}
-use Rattle.status_page.specs.Read.{offence, statusRead, slotShown, bitsOn, statusRecord}
+use Rattle.status_page.specs.Read.{offence, bytesTested, statusTested, statusRead, slotShown, bitsOn, statusRecord}
 
 pub slot-length : (at : Slot) (x : List ℕ) → length (slotBytes at x) ≡ 4
 unfolding slotBytes
@@ -40,49 +43,43 @@ slot-length at x = go (at .overall)
 pub row-length : (c : List ℕ) (f : ℕ → List ℕ) (i : ℕ) → length (slotRow c f i) ≡ 4
 row-length c f i = slot-length (slotAt c i) (f i)
 
--- a page with n slots, written if it fits
-module _ (c out : List ℕ) (b : PageBits) (f : ℕ → List ℕ) (n : ℕ) {k : ℕ} {w : Written} (e : n ≡ slotsOf c) (p : k ≡ slotPlace n)
-    (q : w ≡ fitted k (length out)) where
-  pub with-fits : w ≡ fitted (length (pageWith c b f)) (length out)
+-- a page, and the page put into an output buffer that holds it
+module _ (c : List ℕ) (b : PageBits) (f : ℕ → List ℕ) (n : ℕ) (e : n ≡ slotsOf c) where
+  pub with-length : slotPlace n ≡ length (pageWith c b f)
   unfolding pageWith
-  with-fits = rw (← e) (page-fits (slotRow c f) (row-length c f) c out 0x02 (bitsByte b) n p q)
+  with-length = rw (← e) (sym (length-page (slotRow c f) (row-length c f) c 0x02 (bitsByte b) n))
 
-  pub with-out : {own m : ℕ} {x y : List ℕ} → own ≡ bitsByte b → x ≡ pages.headPut c out 0x02 own n → y ≡ slotsPut (slotRow c f) x n → w ≡ written.Bytes m
-      → y ≡ outAfter w (pageWith c b f) out
+  pub with-placed : (out : List ℕ) {own : ℕ} {x y : List ℕ} → slotPlace n ≤ length out → own ≡ bitsByte b → x ≡ pages.headPut c out 0x02 own n → y ≡ slotsPut (slotRow c f) x n
+      → y ≡ placed (pageWith c b f) out
   unfolding pageWith
-  with-out o u v r =
-      rw (← e)
-      (page-out (slotRow c f) (row-length c f) c out 0x02 (bitsByte b) n p q (u ∙ ap (λ x. pages.headPut c out 0x02 x n) o) v r)
+  with-placed out l o u v =
+      rw (← e) (page-placed (slotRow c f) (row-length c f) c out 0x02 (bitsByte b) n l (u ∙ ap (λ x. pages.headPut c out 0x02 x n) o) v)
 
--- the writer from a shelf
-module _ (s out : List ℕ) where
-  pub no-shelf : wellFormed s ≡ false → written.Refused ShelfNotWellFormed ≡ writes (shelfTested s) (statusPage s) out
-  no-shelf e = rw e
-
-  pub shelf-writes : {w : Written} → wellFormed s ≡ true → w ≡ fitted (length (pageWith s (pageBits s) (shownIn s))) (length out)
-      → w ≡ writes (shelfTested s) (statusPage s) out
+-- the page of a shelf
+module _ (s : List ℕ) {n : ℕ} (e : n ≡ slotsOf s) where
+  pub page-length : {k : ℕ} → k ≡ slotPlace n → k ≡ length (statusPage s)
   unfolding statusPage
-  shelf-writes e q = rw e q
+  page-length q = q ∙ with-length s (pageBits s) (shownIn s) n e
 
--- the reader
-module _ (c p : List ℕ) where
-  pub no-configuration : configurationFormed c ≡ false → answer.Refused ShelfNotWellFormed ≡ statusRead c p
-  unfolding statusRead
-  no-configuration e = rw e
+  pub shelf-placed : (out : List ℕ) {b : PageBits} {own : ℕ} {x y : List ℕ} → slotPlace n ≤ length out → b ≡ pageBits s → own ≡ bitsByte b
+      → x ≡ pages.headPut s out 0x02 own n → y ≡ slotsPut (slotRow s (shownIn s)) x n → y ≡ placed (statusPage s) out
+  unfolding statusPage
+  shelf-placed out l q o u v = with-placed s (pageBits s) (shownIn s) n e out l (o ∙ ap bitsByte q) u v
 
-  module _ (e : configurationFormed c ≡ true) {n : ℕ} (q : n ≡ slotsOf c) where
-    pub no-head : {a : Answer} {r : Refusal} → a ≡ headed c p 0x02 n → a ≡ answer.Refused r → a ≡ statusRead c p
-    unfolding statusRead
-    no-head h u = u ∙ sym (rw (e, ← q, ← h, u))
+-- the page's own tests
+module _ (c p : List ℕ) (n : ℕ) {k m : ℕ} (x : k ≡ offence c p n) (y : m ≡ slotPlace n) where
+  pub byte-refused : (k ≡ m → ⊥) → answer.Refused NotAllowed ≡ bytesTested c p n
+  unfolding bytesTested
+  byte-refused t = sym (rw (← x, ← y, ne-eqb k m t))
 
-    module _ {a : Answer} (h : a ≡ headed c p 0x02 n) (u : a ≡ answer.Accepted) {k m : ℕ} (x : k ≡ offence c p n) (y : m ≡ slotPlace n) where
-      pub refused-byte : eqb k m ≡ false → answer.Refused NotAllowed ≡ statusRead c p
-      unfolding statusRead
-      refused-byte t = sym (rw (e, ← q, ← h, u, ← x, ← y, t))
+  pub bytes-passed : k ≡ m → answer.Accepted ≡ bytesTested c p n
+  unfolding bytesTested
+  bytes-passed t = sym (rw (← x, ← y, eq-eqb k m t))
 
-      pub page-read : eqb k m ≡ true → answer.Accepted ≡ statusRead c p
-      unfolding statusRead
-      page-read t = sym (rw (e, ← q, ← h, u, ← x, ← y, t))
+pub parts-read : (c p : List ℕ) → configurationFormed c ≡ true → headed c p 0x02 (slotsOf c) ≡ answer.Accepted → offence c p (slotsOf c) ≡ slotPlace (slotsOf c)
+    → statusRead c p ≡ answer.Accepted
+unfolding statusRead statusTested bytesTested
+parts-read c p f h o = rw (f, h, eq-eqb (offence c p (slotsOf c)) (slotPlace (slotsOf c)) o)
 
 -- the entry that a slot says has sixteen bytes
 pub shown-length : (c p : List ℕ) (i : ℕ) → length (slotShown c p i) ≡ 16
@@ -93,11 +90,37 @@ shown-length c p i = go (slotAt c i .overall)
     go true = refl
     go false = entry-length (slotAt c i .kind) (fourAt p (slotPlace i))
 
--- what the reader leaves
-pub record-out : (c p r : List ℕ) {n : ℕ} {b : PageBits} {x y : List ℕ} → n ≡ slotsOf c → entryPlace n ≤ length r → b ≡ bitsOn p → x ≡ headPut r b n
-    → y ≡ entriesPut (slotShown c p) x n → y ≡ recordAfter answer.Accepted (statusRecord c p) r
+-- what an accepted page says
+module _ (c p : List ℕ) (a : statusRead c p ≡ answer.Accepted) where
+  pub read-parts : (configurationFormed c ≡ true) × (headed c p 0x02 (slotsOf c) ≡ answer.Accepted) × (offence c p (slotsOf c) ≡ slotPlace (slotsOf c))
+  unfolding statusRead statusTested bytesTested
+  read-parts =
+      let n = slotsOf c in
+      let t = eqb (offence c p n) (slotPlace n) in
+      let r2 : Answer = unless t NotAllowed answer.Accepted in
+      let h1 = held-both (configurationTested c) (next (headed c p 0x02 n) r2) a in
+      let h2 = held-both (headed c p 0x02 n) r2 (h1 .1) in (
+        held (configurationFormed c) ShelfNotWellFormed answer.Accepted (h1 .0) .0,
+        h2 .0,
+        eqb-true (offence c p n) (slotPlace n) (held t NotAllowed answer.Accepted (h2 .1) .0),
+      )
+
+  pub read-front : HasFront c
+  read-front = configuration-there c (read-parts .0)
+
+  -- the bytes that are read and written for the record
+  module _ {n : ℕ} (e : n ≡ slotsOf c) where
+    pub page-there : slotPlace n ≤ length p
+    page-there = omega (arith, length-tested c p 0x02 (slotsOf c) (read-parts .1))
+
+    pub entries-there : (fields : List ℕ) → length fields ≡ entryPlace (mostTypes + mostElements) → entryPlace n ≤ length fields
+    entries-there fields l = omega (arith, l, slots-bound c (read-front .0))
+
+-- what the reader hands over
+pub record-placed : (c p r : List ℕ) {n : ℕ} {b : PageBits} {x y : List ℕ} → n ≡ slotsOf c → entryPlace n ≤ length r → b ≡ bitsOn p → x ≡ headPut r b n
+    → y ≡ entriesPut (slotShown c p) x n → y ≡ placed (statusRecord c p) r
 unfolding statusRecord
-record-out c p r {n} {b} {x} {y} e l q u v =
+record-placed c p r {n} {b} {x} {y} e l q u v =
     v
     ∙ ap (λ (o : List ℕ). entriesPut (slotShown c p) o n) (u ∙ ap (λ z. headPut r z n) q)
     ∙ record-put (slotShown c p) (shown-length c p) (bitsOn p) r n l

@@ -5,7 +5,7 @@ use mathlib.Core.List.{List, [], _∷_, _++_}
 use Prim.Native.Nat.{ℕ, _+_, _-_, _<_, _≤_}
 use native.Mathlib.Omega.{arith}
 use lib.ListN.{getD}
-use borrow.Author.Tests.{eq-eqb, le-ltb}
+use borrow.Author.Tests.{le-ltb}
 use Rattle.bits.specs.Choice.{pick, refusedIn}
 use Rattle.bits.specs.Bits.{only, nibble, bit}
 use Rattle.bits.specs.Places.{fourAt}
@@ -42,7 +42,7 @@ use Rattle.shelf_status.specs.ShelfStatus.{shownAt, worst, has, shownIn, pageBi
 use Rattle.status_page.specs.Page.{slotBytes, slotRow, pageWith, statusPage}
 use Rattle.status_record.specs.Entries.{recordWith, headRow}
 use Rattle.status_page.specs.Read.{slotOffending, statusRead, slotShown, bitsOn, statusRecord}
-use Rattle.status_page.proofs.Refusals.{row-length, page-read}
+use Rattle.status_page.proofs.Refusals.{row-length, parts-read}
 use Rattle.status_page.proofs.Loops.{none-refused}
 
 -- the worst code is one that may be shown
@@ -186,11 +186,9 @@ module _ (s : List ℕ) (hs : Bytes s) (w : wellFormed s ≡ true) where
   pub told-read : statusRead (front s) (statusPage s) ≡ Accepted
   told-read =
       let n = slotsOf s in
-      sym
-      (page-read (front s) (statusPage s) (configuration-of s w) (sym (slots-same s)) (sym head) refl
-      (none-refused (front s) (statusPage s) n (ap (only (2 ∷ 1 ∷ [])) own ∙ own-only (pageBits s .noncritical) (pageBits s .critical))
-      (below-all (fails (refusedIn (slotOffending (front s) (statusPage s)))) n none) refl)
-      refl (eq-eqb (slotPlace n) (slotPlace n) refl))
+      let o = none-refused (front s) (statusPage s) n (ap (only (2 ∷ 1 ∷ [])) own ∙ own-only (pageBits s .noncritical) (pageBits s .critical))
+      (below-all (fails (refusedIn (slotOffending (front s) (statusPage s)))) n none) refl in
+      parts-read (front s) (statusPage s) (configuration-of s w) (rw (slots-same s) head) (rw (slots-same s) (sym o))
     where
       head : headed (front s) (statusPage s) 0x02 (slotsOf s) ≡ Accepted
       head = head-told s few

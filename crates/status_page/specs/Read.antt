@@ -6,15 +6,14 @@ use lib.ListN.{getD}
 use Rattle.bits.specs.Choice.{pick, offenceIn}
 use Rattle.bits.specs.Bits.{bit, only}
 use Rattle.bits.specs.Places.{fourAt}
-use Rattle.refusals.specs.declared.Refusal.the-variants.{ShelfNotWellFormed, NotAllowed}
+use Rattle.refusals.specs.declared.Refusal.the-variants.{NotAllowed}
 use Rattle.refusals.specs.declared.Answer.{Answer}
 use Rattle.refusals.specs.declared.Answer.the-variants.{Accepted}
 use Rattle.refusals.specs.Outcomes.{unless, next}
-use Rattle.shelf_formed.specs.Formed.{configurationFormed}
 use Rattle.element.specs.Status.{statusOffending, overallOffending, codeAlone, entryOf}
 use Rattle.page.specs.declared.slots.Slot.{Slot}
 use Rattle.page.specs.Slots.{slotsOf, slotAt, slotPlace}
-use Rattle.page.specs.Header.{headed}
+use Rattle.page.specs.Header.{configurationTested, headed}
 use Rattle.shelf_status.specs.declared.PageBits.{PageBits}
 use Rattle.status_record.specs.Entries.{recordWith}
 
@@ -28,12 +27,17 @@ slotOffending c p i =
 unfoldable pub offence : List ℕ → List ℕ → ℕ → ℕ
 offence c p n = pick (only (2 ∷ 1 ∷ []) (getD p 1 0)) (offenceIn slotPlace (slotOffending c p) n) 1
 
--- 1: no configuration; 2 to 5: the header; 6: a byte of the page is refused
+-- 6: a byte of the page is refused
+unfoldable pub bytesTested : List ℕ → List ℕ → ℕ → Answer
+bytesTested c p n = unless (eqb (offence c p n) (slotPlace n)) NotAllowed Accepted
+
+-- 2 to 5: the header of a page of n slots; 6: its bytes
+unfoldable pub statusTested : List ℕ → List ℕ → ℕ → Answer
+statusTested c p n = next (headed c p 0x02 n) (bytesTested c p n)
+
+-- 1: no configuration; 2 to 6: the page
 unfoldable pub statusRead : List ℕ → List ℕ → Answer
-statusRead c p =
-    unless (configurationFormed c) ShelfNotWellFormed
-    (next (headed c p 0x02 (slotsOf c))
-    (unless (eqb (offence c p (slotsOf c)) (slotPlace (slotsOf c))) NotAllowed Accepted))
+statusRead c p = next (configurationTested c) (statusTested c p (slotsOf c))
 
 -- the entry that slot i says
 unfoldable pub slotShown : List ℕ → List ℕ → ℕ → List ℕ

@@ -3,9 +3,10 @@ use crate::writing;
 use page::header;
 use page::slots;
 use page::slots::Slot;
+use page::testing;
 use refusals::Answer;
 use refusals::Refusal;
-use shelf_formed::Opened;
+use refusals::Tested;
 use shelf_status::PageBits;
 ghost use mathlib.Core.Path.{_≡_};
 ghost use Prim.Native.Nat.{_+_, _≤_};
@@ -13,11 +14,12 @@ ghost use lib.ListN.{length, getD};
 ghost use Rattle.bits.specs.Choice.{pick};
 ghost use Rattle.bits.specs.Places.{fourAt};
 ghost use Rattle.element.specs.Status.{statusOffending, overallOffending, codeAlone, entryOf};
-ghost use Rattle.refusals.specs.Outcomes.{recordAfter};
+ghost use Rattle.refusals.specs.declared.Answer.the-variants.{Accepted};
+ghost use Rattle.refusals.specs.Outcomes.{placed, HandsBack};
 ghost use Rattle.shelf_formed.specs.Formed.{HasFront};
 ghost use Rattle.page.specs.Slots.{slotsOf, slotPlace};
 ghost use Rattle.status_record.specs.Entries.{entryPlace, entriesPut};
-ghost use Rattle.status_page.specs.Read.{offence, slotShown, bitsOn, statusRead, statusRecord};
+ghost use Rattle.status_page.specs.Read.{offence, bytesTested, statusTested, slotShown, bitsOn, statusRead, statusRecord};
 
 // The first byte of slot i that is refused; 4 if none is.
 fn slot_offending(page: &[u8], at: Slot, i: u16) -> u8
@@ -101,23 +103,59 @@ fn put_entries(configuration: &[u8], page: &[u8], fields: &mut [u8], n: u16)
     }
 }
 
-pub fn read(configuration: &[u8], page: &[u8], fields: &mut [u8; status_record::LENGTH]) -> Answer
-    ensures { λ r. ⌜ r ≡ statusRead (now (configuration .entry)) (now (page .entry)) ⌝ }
-    ensures { λ r. ⌜ now (fields .exit) ≡ recordAfter r (statusRecord (now (configuration .entry)) (now (page .entry))) (now (fields .entry)) ⌝ }
+// The page's own tests.
+fn test_bytes(configuration: &[u8], page: &[u8], n: u16) -> Answer
+    requires { ⌜ HasFront (now configuration) ⌝ }
+    requires { ⌜ n ≤ slotsOf (now configuration) ⌝ }
+    requires { ⌜ slotPlace n ≤ length (now page) ⌝ }
+    ensures { λ r. ⌜ r ≡ bytesTested (now (configuration .entry)) (now (page .entry)) n ⌝ }
 {
-    let opened = shelf_formed::open_configuration(configuration);
-    let Opened::Shelf(sizes) = opened else {
-        return Answer::Refused(Refusal::ShelfNotWellFormed);
-    };
-    let n = sizes.types + sizes.elements;
+    if first_offence(configuration, page, n) != slots::slot_place(n) {
+        return Answer::Refused(Refusal::NotAllowed);
+    }
+    Answer::Accepted
+}
+
+// A page of n slots, its header and then its bytes.
+fn test_page(configuration: &[u8], page: &[u8], n: u16) -> Answer
+    requires { ⌜ HasFront (now configuration) ⌝ }
+    requires { ⌜ n ≤ slotsOf (now configuration) ⌝ }
+    ensures { λ r. ⌜ r ≡ statusTested (now (configuration .entry)) (now (page .entry)) n ⌝ }
+{
     let head = header::test(configuration, page, writing::CODE, n);
     let Answer::Accepted = head else {
         return head;
     };
-    if first_offence(configuration, page, n) != slots::slot_place(n) {
-        return Answer::Refused(Refusal::NotAllowed);
-    }
+    test_bytes(configuration, page, n)
+}
+
+pub fn test(configuration: &[u8], page: &[u8]) -> Answer
+    ensures { λ r. ⌜ r ≡ statusRead (now (configuration .entry)) (now (page .entry)) ⌝ }
+{
+    let configured = testing::configuration_slots(configuration);
+    let Tested::Slots(n) = configured else {
+        return configured.answer();
+    };
+    test_page(configuration, page, n)
+}
+
+// The record that an accepted page tells.
+fn hand_over(configuration: &[u8], page: &[u8], fields: &mut [u8; status_record::LENGTH])
+    requires { ⌜ statusRead (now configuration) (now page) ≡ Accepted ⌝ }
+    ensures { λ _. ⌜ now (fields .exit) ≡ placed (statusRecord (now (configuration .entry)) (now (page .entry))) (now (fields .entry)) ⌝ }
+{
+    let n = slots::count(configuration);
     status_record::put_head(fields, bits_on(page), n);
     put_entries(configuration, page, fields, n);
-    Answer::Accepted
+}
+
+pub fn read(configuration: &[u8], page: &[u8], fields: &mut [u8; status_record::LENGTH]) -> Answer
+    ensures { λ r. ⌜ HandsBack (statusRead (now (configuration .entry)) (now (page .entry))) (statusRecord (now (configuration .entry)) (now (page .entry))) (now (fields .entry)) r (now (fields .exit)) ⌝ }
+{
+    let tested = test(configuration, page);
+    let Answer::Accepted = tested else {
+        return tested;
+    };
+    hand_over(configuration, page, fields);
+    tested
 }

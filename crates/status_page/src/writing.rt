@@ -2,14 +2,14 @@
 use page::header;
 use page::slots;
 use page::slots::Slot;
-use refusals::Refusal;
+use page::testing;
+use refusals::Tested;
 use refusals::Written;
-use shelf_formed::Opened;
 use shelf_status::PageBits;
 ghost use mathlib.Core.Path.{_≡_};
-ghost use Rattle.refusals.specs.Outcomes.{writes, outAfter};
 ghost use Rattle.bits.specs.Choice.{pick};
 ghost use Rattle.element.specs.Status.{codeAlone};
+ghost use Rattle.refusals.specs.Outcomes.{placed, WritesPage};
 ghost use Rattle.shelf_status.specs.ShelfStatus.{shownAt, worst, shownIn};
 ghost use Rattle.page.specs.Slots.{slotsOf, slotsPut, HasElements};
 ghost use Rattle.page.specs.Header.{shelfTested, HasPage};
@@ -58,20 +58,27 @@ fn put_slots(shelf: &[u8], out: &mut [u8], n: u16)
     }
 }
 
-pub fn write(shelf: &[u8], out: &mut [u8]) -> Written
-    ensures { λ r. ⌜ r ≡ writes (shelfTested (now (shelf .entry))) (statusPage (now (shelf .entry))) (now (out .entry)) ⌝ }
-    ensures { λ r. ⌜ now (out .exit) ≡ outAfter r (statusPage (now (shelf .entry))) (now (out .entry)) ⌝ }
+// The page of n slots into an output buffer that holds it.
+fn put(shelf: &[u8], n: u16, out: &mut [u8])
+    requires { ⌜ HasPage (now shelf) (now out) ⌝ }
+    requires { ⌜ n ≡ slotsOf (now shelf) ⌝ }
+    ensures { λ _. ⌜ now (out .exit) ≡ placed (statusPage (now (shelf .entry))) (now (out .entry)) ⌝ }
 {
-    let opened = shelf_formed::open_shelf(shelf);
-    let Opened::Shelf(sizes) = opened else {
-        return Written::Refused(Refusal::ShelfNotWellFormed);
+    header::put(shelf, out, CODE, PageBits::of(shelf).byte(), n);
+    put_slots(shelf, out, n);
+}
+
+pub fn write(shelf: &[u8], out: &mut [u8]) -> Written
+    ensures { λ r. ⌜ WritesPage (shelfTested (now (shelf .entry))) (statusPage (now (shelf .entry))) (now (out .entry)) r (now (out .exit)) ⌝ }
+{
+    let tested = testing::shelf_slots(shelf);
+    let Tested::Slots(n) = tested else {
+        return Written::refused(tested.answer());
     };
-    let n = sizes.types + sizes.elements;
     let fit = Written::fit(slots::slot_place(n), out.len());
     let Written::Bytes(_) = fit else {
         return fit;
     };
-    header::put(shelf, out, CODE, PageBits::of(shelf).byte(), n);
-    put_slots(shelf, out, n);
+    put(shelf, n, out);
     fit
 }

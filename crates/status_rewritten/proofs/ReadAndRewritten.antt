@@ -16,11 +16,7 @@ use Rattle.bits.proofs.Logic.{pick-yes, pick-no, below-all, by-case, all-four}
 use Rattle.bits.proofs.Halves.{again-byte}
 use Rattle.bits.specs.Numbers.{Bytes}
 use Rattle.bits.proofs.Rows.{joined-same, fours}
-use Rattle.refusals.specs.declared.Refusal.the-variants.{ShelfNotWellFormed, NotAllowed}
-use Rattle.refusals.specs.declared.Answer.{Answer}
 use Rattle.refusals.specs.declared.Answer.the-variants.{Accepted}
-use Rattle.refusals.specs.Outcomes.{unless, next}
-use Rattle.refusals.proofs.AcceptedTests.{held, held-both}
 use Rattle.shelf.specs.Limits.{mostTypes, mostElements}
 use Rattle.shelf_formed.specs.Formed.{configurationFormed}
 use Rattle.element.specs.StatusLayout.{fit}
@@ -35,10 +31,10 @@ use Rattle.page.proofs.HeaderBothWays.{byte-small, length-tested, header-again}
 use Rattle.shelf_status.specs.ShelfStatus.{bitsByte}
 use Rattle.status_page.specs.Page.{slotBytes, slotRow, pageWith}
 use Rattle.status_record.specs.Entries.{entryAt, bitsAt, entriesIn}
+use Rattle.status_page.proofs.Refusals.{read-parts, shown-length}
 use Rattle.status_page.specs.Read.{slotOffending, offence, statusRead, slotShown, bitsOn, statusRecord}
-use Rattle.status_rewritten.specs.Rewritten.{slotMost, entryFormed, entriesFormed, recordTested, pageAgain}
+use Rattle.status_rewritten.specs.Rewritten.{slotMost, entryFormed, entriesFormed, entriesTested, recordTested, pageAgain}
 use Rattle.status_record.proofs.WholeRecord.{bits-back, bits-fine, count-back, entry-back}
-use Rattle.status_page.proofs.Refusals.{shown-length}
 
 slot-small : (c p : List ℕ) (i : ℕ) → slotOffending c p i ≤ 4
 unfolding slotOffending
@@ -124,18 +120,11 @@ own-again = again-byte (2 ∷ 1 ∷ []) (λ b. nibble false (bit 2 b) (bit 1 b) 
 
 -- writing again what an accepted reading gave, whatever stands behind it
 module _ (c p rest : List ℕ) (hc : Bytes c) (hp : Bytes p) (a : statusRead c p ≡ Accepted) where
-  passed : (configurationFormed c ≡ true) × (headed c p 0x02 (slotsOf c) ≡ Accepted) × (eqb (offence c p (slotsOf c)) (slotPlace (slotsOf c)) ≡ true)
-  unfolding statusRead
-  passed =
-      let r2 : Answer = unless (eqb (offence c p (slotsOf c)) (slotPlace (slotsOf c))) NotAllowed Accepted in
-      let r1 : Answer = next (headed c p 0x02 (slotsOf c)) r2 in
-      let h1 = held (configurationFormed c) ShelfNotWellFormed r1 a in
-      let h2 = held-both (headed c p 0x02 (slotsOf c)) r2 (h1 .1) in
-      let h3 = held (eqb (offence c p (slotsOf c)) (slotPlace (slotsOf c))) NotAllowed Accepted (h2 .1) in
-      (h1 .0, h2 .0, h3 .0)
+  passed : (configurationFormed c ≡ true) × (headed c p 0x02 (slotsOf c) ≡ Accepted) × (offence c p (slotsOf c) ≡ slotPlace (slotsOf c))
+  passed = read-parts c p a
 
   no-offence : offence c p (slotsOf c) ≡ slotPlace (slotsOf c)
-  no-offence = eqb-true (offence c p (slotsOf c)) (slotPlace (slotsOf c)) (passed .2)
+  no-offence = passed .2
 
   few : slotsOf c ≤ mostTypes + mostElements
   few = slots-bound c (configuration-front c (passed .0))
@@ -154,9 +143,9 @@ module _ (c p rest : List ℕ) (hc : Bytes c) (hp : Bytes p) (a : statusRead c p
   unfolding entryFormed
   entry-fine i l = ap (λ (x : List ℕ). fit (slotMost (slotAt c i)) x 16) (entry-told i l) ∙ shown-fine c p hp i (fine i l)
 
-  pub asked-again : recordTested c record-told ≡ Accepted
-  unfolding recordTested entriesFormed statusRecord
-  asked-again =
+  pub tested-again : recordTested c record-told ≡ Accepted
+  unfolding recordTested entriesTested entriesFormed statusRecord
+  tested-again =
       let n : entriesIn record-told ≡ slotsOf c = count-back (bitsOn p) (slotShown c p) (shown-length c p) (slotsOf c) rest (omega (arith, few)) in
       rw (
         passed .0,

@@ -1,48 +1,66 @@
 -- The test of one entry, and the refusals of the writer one after the other. Assumes nothing.
-use mathlib.Core.Path.{_≡_, _∙_}
+use mathlib.Core.Path.{_≡_, sym, ap, _∙_}
 use mathlib.Core.Bool.{Bool, true, false}
 use mathlib.Core.List.{List}
-use Prim.Native.Nat.{ℕ}
+use Prim.Native.Nat.{ℕ, _≤_}
 use lib.ListN.{length}
+use borrow.Author.Tests.{eq-eqb, ne-eqb}
 use Rattle.element.specs.StatusLayout.{fit}
-use Rattle.page.specs.declared.slots.Slot.{Slot}
-use Rattle.page.specs.Slots.{slotAt, slotsOf}
-use Rattle.status_record.specs.Entries.{entryAt, entriesIn, bitsFormed}
-use Rattle.status_rewritten.specs.Rewritten.{slotMost, entryFormed, entriesFormed, recordTested, pageAgain}
-use lib.Dec.{eqb}
 use Rattle.refusals.specs.declared.Refusal.the-variants.{ShelfNotWellFormed, NotAllowed, WantedList}
-use Rattle.refusals.specs.declared.Written.{Written}
-use Rattle.refusals.specs.Outcomes.{fitted, writes}
-use Rattle.shelf_formed.specs.Formed.{configurationFormed}
-use Rattle.refusals.specs.declared.Written.the-variants as written
+use Rattle.refusals.specs.declared.Answer.{Answer}
+use Rattle.refusals.specs.declared.Answer.the-variants.{Accepted, Refused}
+use Rattle.refusals.specs.Outcomes.{placed}
+use Rattle.refusals.proofs.AcceptedTests.{held, held-both}
+use Rattle.shelf_formed.specs.Formed.{HasFront, configurationFormed}
+use Rattle.page.specs.declared.slots.Slot.{Slot}
+use Rattle.page.specs.Slots.{slotAt, slotsOf, slotPlace, slotsPut}
+use Rattle.page.specs.Header.{configurationTested, headPut}
+use Rattle.page.proofs.SlotBounds.{configuration-there}
+use Rattle.shelf_status.specs.declared.PageBits.{PageBits}
+use Rattle.shelf_status.specs.ShelfStatus.{bitsByte}
+use Rattle.status_record.specs.Entries.{entryAt, entriesIn, bitsAt, bitsFormed}
+use Rattle.status_page.specs.Page.{slotRow}
+use Rattle.status_page.proofs.Refusals.{with-placed, with-length}
+use Rattle.status_rewritten.specs.Rewritten.{slotMost, entryFormed, entriesFormed, entriesTested, recordTested, pageAgain}
 
 -- one entry's test
 pub entry-tested : (c r : List ℕ) (i : ℕ) {at : Slot} {t : Bool} → at ≡ slotAt c i → t ≡ fit (slotMost at) (entryAt r i) 16 → t ≡ entryFormed c r i
 unfolding entryFormed
 entry-tested c r i q h = h ∙ rw q
 
--- the writer from a record
-module _ (c r out : List ℕ) where
-  pub again-no-configuration : configurationFormed c ≡ false → written.Refused ShelfNotWellFormed ≡ writes (recordTested c r) (pageAgain c r) out
-  unfolding recordTested
-  again-no-configuration e = rw e
+-- the entries of a record, from what the calls say
+module _ (c r : List ℕ) (n : ℕ) {k : ℕ} (x : k ≡ entriesIn r) where
+  pub other-entries : (k ≡ n → ⊥) → Refused WantedList ≡ entriesTested c r n
+  unfolding entriesTested
+  other-entries t = sym (rw (← x, ne-eqb k n t))
 
-  module _ (e : configurationFormed c ≡ true) {n : ℕ} (q : n ≡ slotsOf c) where
-    pub other-entries : eqb (entriesIn r) n ≡ false → written.Refused WantedList ≡ writes (recordTested c r) (pageAgain c r) out
-    unfolding recordTested
-    other-entries t = rw (e, ← q, t)
+  module _ (u : k ≡ n) {b : Bool} (y : b ≡ bitsFormed r) where
+    pub other-bits : b ≡ false → Refused NotAllowed ≡ entriesTested c r n
+    unfolding entriesTested
+    other-bits t = sym (rw (← x, eq-eqb k n u, ← y, t))
 
-    module _ (u : eqb (entriesIn r) n ≡ true) where
-      pub other-bits : bitsFormed r ≡ false → written.Refused NotAllowed ≡ writes (recordTested c r) (pageAgain c r) out
-      unfolding recordTested
-      other-bits t = rw (e, ← q, u, t)
+    module _ (v : b ≡ true) {f : Bool} (z : f ≡ entriesFormed c r n) where
+      pub other-fields : f ≡ false → Refused NotAllowed ≡ entriesTested c r n
+      unfolding entriesTested
+      other-fields t = sym (rw (← x, eq-eqb k n u, ← y, v, ← z, t))
 
-      module _ (v : bitsFormed r ≡ true) where
-        pub other-fields : entriesFormed c r n ≡ false → written.Refused NotAllowed ≡ writes (recordTested c r) (pageAgain c r) out
-        unfolding recordTested
-        other-fields t = rw (e, ← q, u, v, t)
+      pub entries-passed : f ≡ true → Accepted ≡ entriesTested c r n
+      unfolding entriesTested
+      entries-passed t = sym (rw (← x, eq-eqb k n u, ← y, v, ← z, t))
 
-        pub again-writes : {w : Written} → entriesFormed c r n ≡ true → w ≡ fitted (length (pageAgain c r)) (length out)
-            → w ≡ writes (recordTested c r) (pageAgain c r) out
-        unfolding recordTested
-        again-writes t h = rw (e, ← q, u, v, t) h
+pub record-front : (c r : List ℕ) {a : Answer} → a ≡ recordTested c r → a ≡ Accepted → HasFront c
+unfolding recordTested
+record-front c r h u =
+    let e = held-both (configurationTested c) (entriesTested c r (slotsOf c)) (sym h ∙ u) in
+    configuration-there c (held (configurationFormed c) ShelfNotWellFormed Accepted (e .0) .0)
+
+-- the page
+module _ (c r : List ℕ) {n : ℕ} (e : n ≡ slotsOf c) where
+  pub again-length : {k : ℕ} → k ≡ slotPlace n → k ≡ length (pageAgain c r)
+  unfolding pageAgain
+  again-length q = q ∙ with-length c (bitsAt r) (entryAt r) n e
+
+  pub again-placed : (out : List ℕ) {b : PageBits} {own : ℕ} {x y : List ℕ} → slotPlace n ≤ length out → b ≡ bitsAt r → own ≡ bitsByte b → x ≡ headPut c out 0x02 own n
+      → y ≡ slotsPut (slotRow c (entryAt r)) x n → y ≡ placed (pageAgain c r) out
+  unfolding pageAgain
+  again-placed out l q o u v = with-placed c (bitsAt r) (entryAt r) n e out l (o ∙ ap bitsByte q) u v

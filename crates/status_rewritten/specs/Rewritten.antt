@@ -4,15 +4,15 @@ use mathlib.Core.List.{List}
 use Prim.Native.Nat.{ℕ}
 use lib.Dec.{eqb}
 use Rattle.bits.specs.Choice.{pick, allBelow}
-use Rattle.refusals.specs.declared.Refusal.the-variants.{ShelfNotWellFormed, NotAllowed, WantedList}
+use Rattle.refusals.specs.declared.Refusal.the-variants.{NotAllowed, WantedList}
 use Rattle.refusals.specs.declared.Answer.{Answer}
 use Rattle.refusals.specs.declared.Answer.the-variants.{Accepted}
-use Rattle.refusals.specs.Outcomes.{unless}
-use Rattle.shelf_formed.specs.Formed.{configurationFormed}
+use Rattle.refusals.specs.Outcomes.{unless, next}
 use Rattle.element.specs.StatusLayout.{fit}
 use Rattle.element.specs.Status.{mostShown, mostOverall}
 use Rattle.page.specs.declared.slots.Slot.{Slot}
 use Rattle.page.specs.Slots.{slotsOf, slotAt}
+use Rattle.page.specs.Header.{configurationTested}
 use Rattle.status_page.specs.Page.{pageWith}
 use Rattle.status_record.specs.Entries.{entryAt, bitsAt, bitsFormed, entriesIn}
 
@@ -26,13 +26,16 @@ entryFormed c r i = fit (slotMost (slotAt c i)) (entryAt r i) 16
 unfoldable pub entriesFormed : List ℕ → List ℕ → ℕ → Bool
 entriesFormed c r n = allBelow (entryFormed c r) n
 
--- 1: no configuration; 9: a wrong number of entries; 6: a field
-unfoldable pub recordTested : List ℕ → List ℕ → Answer
-recordTested c r =
-    unless (configurationFormed c) ShelfNotWellFormed
-    (unless (eqb (entriesIn r) (slotsOf c)) WantedList
+-- 9: another number of entries than n; 6: a field
+unfoldable pub entriesTested : List ℕ → List ℕ → ℕ → Answer
+entriesTested c r n =
+    unless (eqb (entriesIn r) n) WantedList
     (unless (bitsFormed r) NotAllowed
-    (unless (entriesFormed c r (slotsOf c)) NotAllowed Accepted)))
+    (unless (entriesFormed c r n) NotAllowed Accepted))
+
+-- 1: no configuration; 9, 6: the entries
+unfoldable pub recordTested : List ℕ → List ℕ → Answer
+recordTested c r = next (configurationTested c) (entriesTested c r (slotsOf c))
 
 unfoldable pub pageAgain : List ℕ → List ℕ → List ℕ
 pageAgain c r = pageWith c (bitsAt r) (entryAt r)

@@ -2,20 +2,22 @@
 use page::header;
 use page::slots;
 use page::slots::Slot;
+use page::testing;
+use refusals::Answer;
 use refusals::Refusal;
+use refusals::Tested;
 use refusals::Written;
-use shelf_formed::Opened;
 use status_page::writing;
 ghost use mathlib.Core.Path.{_≡_};
 ghost use Prim.Native.Nat.{_≤_};
 ghost use lib.ListN.{length};
 ghost use Rattle.element.specs.StatusLayout.{fit};
-ghost use Rattle.refusals.specs.Outcomes.{writes, outAfter};
+ghost use Rattle.refusals.specs.Outcomes.{placed, WritesPage};
 ghost use Rattle.shelf_formed.specs.Formed.{HasFront};
 ghost use Rattle.page.specs.Slots.{slotsOf, slotPlace, slotsPut};
 ghost use Rattle.status_page.specs.Page.{slotRow};
 ghost use Rattle.status_record.specs.Entries.{entryPlace, HasEntry, entryAt};
-ghost use Rattle.status_rewritten.specs.Rewritten.{slotMost, entriesFormed, recordTested, pageAgain};
+ghost use Rattle.status_rewritten.specs.Rewritten.{slotMost, entriesFormed, entriesTested, recordTested, pageAgain};
 
 // The most that each byte of a slot's entry may be.
 fn slot_most(at: Slot) -> [u8; element_status::ENTRY]
@@ -76,35 +78,58 @@ fn put_slots(configuration: &[u8], fields: &[u8], out: &mut [u8], n: u16)
     }
 }
 
-pub fn write(configuration: &[u8], fields: &[u8; status_record::LENGTH], out: &mut [u8]) -> Written
-    ensures { λ r. ⌜ r ≡ writes (recordTested (now (configuration .entry)) (now (fields .entry))) (pageAgain (now (configuration .entry)) (now (fields .entry))) (now (out .entry)) ⌝ }
-    ensures { λ r. ⌜ now (out .exit) ≡ outAfter r (pageAgain (now (configuration .entry)) (now (fields .entry))) (now (out .entry)) ⌝ }
+// A record of n entries.
+fn test_entries(configuration: &[u8], fields: &[u8; status_record::LENGTH], n: u16) -> Answer
+    requires { ⌜ HasFront (now configuration) ⌝ }
+    requires { ⌜ n ≡ slotsOf (now configuration) ⌝ }
+    ensures { λ r. ⌜ r ≡ entriesTested (now (configuration .entry)) (now (fields .entry)) n ⌝ }
 {
-    let opened = shelf_formed::open_configuration(configuration);
-    let Opened::Shelf(sizes) = opened else {
-        return Written::Refused(Refusal::ShelfNotWellFormed);
-    };
-    let n = sizes.types + sizes.elements;
     if status_record::count(fields) != n {
-        return Written::Refused(Refusal::WantedList);
+        return Answer::Refused(Refusal::WantedList);
     }
     if !status_record::bits_formed(fields) {
-        return Written::Refused(Refusal::NotAllowed);
+        return Answer::Refused(Refusal::NotAllowed);
     }
     if !entries_formed(configuration, fields, n) {
-        return Written::Refused(Refusal::NotAllowed);
+        return Answer::Refused(Refusal::NotAllowed);
     }
+    Answer::Accepted
+}
+
+pub fn test(configuration: &[u8], fields: &[u8; status_record::LENGTH]) -> Answer
+    ensures { λ r. ⌜ r ≡ recordTested (now (configuration .entry)) (now (fields .entry)) ⌝ }
+{
+    let configured = testing::configuration_slots(configuration);
+    let Tested::Slots(n) = configured else {
+        return configured.answer();
+    };
+    test_entries(configuration, fields, n)
+}
+
+// The page of n slots into an output buffer that holds it.
+fn put(configuration: &[u8], fields: &[u8; status_record::LENGTH], n: u16, out: &mut [u8])
+    requires { ⌜ HasFront (now configuration) ⌝ }
+    requires { ⌜ n ≡ slotsOf (now configuration) ⌝ }
+    requires { ⌜ slotPlace n ≤ length (now out) ⌝ }
+    ensures { λ _. ⌜ now (out .exit) ≡ placed (pageAgain (now (configuration .entry)) (now (fields .entry))) (now (out .entry)) ⌝ }
+{
+    let own = status_record::bits_at(fields).byte();
+    header::put(configuration, out, writing::CODE, own, n);
+    put_slots(configuration, fields, out, n);
+}
+
+pub fn write(configuration: &[u8], fields: &[u8; status_record::LENGTH], out: &mut [u8]) -> Written
+    ensures { λ r. ⌜ WritesPage (recordTested (now (configuration .entry)) (now (fields .entry))) (pageAgain (now (configuration .entry)) (now (fields .entry))) (now (out .entry)) r (now (out .exit)) ⌝ }
+{
+    let tested = test(configuration, fields);
+    let Answer::Accepted = tested else {
+        return Written::refused(tested);
+    };
+    let n = slots::count(configuration);
     let fit = Written::fit(slots::slot_place(n), out.len());
     let Written::Bytes(_) = fit else {
         return fit;
     };
-    header::put(
-        configuration,
-        out,
-        writing::CODE,
-        status_record::bits_at(fields).byte(),
-        n,
-    );
-    put_slots(configuration, fields, out, n);
+    put(configuration, fields, n, out);
     fit
 }

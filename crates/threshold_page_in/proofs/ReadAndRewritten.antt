@@ -4,19 +4,14 @@ use mathlib.Core.Bool.{true}
 use mathlib.Core.List.{List, [], _∷_, _++_, append-assoc}
 use Prim.Native.Nat.{ℕ, _+_, _*_, _<_, _≤_}
 use native.Mathlib.Omega.{arith}
-use lib.Dec.{eqb}
 use lib.ListN.{length, getD, drop, take-append-drop, length-drop}
 use lib.Seq.{getD-append-add, take-all}
-use borrow.Author.Tests.{eqb-true, eq-eqb}
+use borrow.Author.Tests.{eq-eqb}
 use Rattle.bits.specs.Rows.{oneAt, bytesAt}
 use Rattle.bits.specs.Numbers.{Bytes}
 use Rattle.bits.proofs.Widths.{big-bytes}
 use Rattle.bits.proofs.Rows.{joined-same, bytes-there, bytes-get}
-use Rattle.refusals.specs.declared.Refusal.the-variants.{ShelfNotWellFormed, NotAllowed}
-use Rattle.refusals.specs.declared.Answer.{Answer}
 use Rattle.refusals.specs.declared.Answer.the-variants.{Accepted}
-use Rattle.refusals.specs.Outcomes.{unless, next}
-use Rattle.refusals.proofs.AcceptedTests.{held, held-both}
 use Rattle.shelf.specs.Limits.{mostTypes, mostElements}
 use Rattle.shelf_formed.specs.Formed.{configurationFormed}
 use Rattle.page.specs.Slots.{slotsOf}
@@ -26,7 +21,8 @@ use Rattle.page.proofs.HeaderBothWays.{length-tested, header-again}
 use Rattle.threshold_rows.proofs.RowTests.{Fine, rows-fine, fine-rows, fine-by}
 use Rattle.threshold_rows.specs.Rows.{onPage, inRecord, rowPlace, rowAt, rowsTested}
 use Rattle.threshold_page_in.specs.Read.{recordHead, thresholdRead, thresholdRecord}
-use Rattle.threshold_page_in.specs.Rewritten.{entriesIn, recordTested, pageAgain}
+use Rattle.threshold_page_in.specs.Rewritten.{entriesIn, entriesTested, recordTested, pageAgain}
+use Rattle.threshold_page_in.proofs.Refusals.{read-parts}
 
 -- a record's entries are the page's slots, whatever stands behind them
 module _ (p rest : List ℕ) (n : ℕ) where
@@ -58,15 +54,7 @@ module _ (p rest : List ℕ) (n : ℕ) where
 -- writing again what an accepted reading gave, whatever stands behind it
 module _ (c p rest : List ℕ) (a : thresholdRead c p ≡ Accepted) where
   passed : (configurationFormed c ≡ true) × (headed c p 0x05 (slotsOf c) ≡ Accepted) × (getD p 1 0 ≡ 0) × (rowsTested c p onPage (slotsOf c) ≡ Accepted)
-  unfolding thresholdRead
-  passed =
-      let r3 : Answer = rowsTested c p onPage (slotsOf c) in
-      let r2 : Answer = unless (eqb (getD p 1 0) 0) NotAllowed r3 in
-      let r1 : Answer = next (headed c p 0x05 (slotsOf c)) r2 in
-      let h1 = held (configurationFormed c) ShelfNotWellFormed r1 a in
-      let h2 = held-both (headed c p 0x05 (slotsOf c)) r2 (h1 .1) in
-      let h3 = held (eqb (getD p 1 0) 0) NotAllowed r3 (h2 .1) in
-      (h1 .0, h2 .0, eqb-true (getD p 1 0) 0 (h3 .0), h3 .1)
+  passed = read-parts c p a
 
   few : slotsOf c ≤ mostTypes + mostElements
   few = slots-bound c (configuration-front c (passed .0))
@@ -78,9 +66,9 @@ module _ (c p rest : List ℕ) (a : thresholdRead c p ≡ Accepted) where
   unfolding thresholdRecord
   entry-fine i l = fine-by c record-told p inRecord onPage i (row-back p rest (slotsOf c) i l) (rows-fine c p onPage (slotsOf c) (passed .3) i l)
 
-  pub asked-again : recordTested c record-told ≡ Accepted
-  unfolding recordTested thresholdRecord
-  asked-again =
+  pub tested-again : recordTested c record-told ≡ Accepted
+  unfolding recordTested entriesTested thresholdRecord
+  tested-again =
       let n : entriesIn record-told ≡ slotsOf c = count-back p rest (slotsOf c) (omega (arith, few)) in
       rw (passed .0, eq-eqb (entriesIn record-told) (slotsOf c) n) (fine-rows c record-told inRecord (slotsOf c) entry-fine)
 

@@ -6,28 +6,29 @@ use Prim.Native.Nat.{ℕ, _+_, _*_, _/_, _%_, _≤_}
 use native.Mathlib.Omega.{arith}
 use lib.Dec.{eqb}
 use lib.ListN.{length, getD, drop, length-append}
+use borrow.Author.Tests.{eq-eqb, ne-eqb, eqb-true}
 use Rattle.bits.specs.Choice.{pick}
 use Rattle.bits.specs.Rows.{bytesAt, putBytes}
 use Rattle.bits.proofs.Rows.{put-next, bytes-next, length-bytes-at}
-use Rattle.refusals.specs.declared.Refusal.{Refusal}
 use Rattle.refusals.specs.declared.Refusal.the-variants.{ShelfNotWellFormed, NotAllowed, WantedList}
 use Rattle.refusals.specs.declared.Answer.{Answer}
 use Rattle.refusals.specs.declared.Answer.the-variants as answer
-use Rattle.refusals.specs.declared.Written.{Written}
-use Rattle.refusals.specs.declared.Written.the-variants as written
-use Rattle.refusals.specs.Outcomes.{fitted, writes, outAfter, recordAfter, passedOn}
+use Rattle.refusals.specs.Outcomes.{unless, next, placed}
+use Rattle.refusals.proofs.AcceptedTests.{held, held-both}
+use Rattle.shelf.specs.Limits.{mostTypes, mostElements}
 use Rattle.shelf.specs.Elements.{thresholdsAt}
-use Rattle.shelf_formed.specs.Formed.{wellFormed, configurationFormed}
+use Rattle.shelf_formed.specs.Formed.{HasFront, configurationFormed}
 use Rattle.page.specs.Slots.{slotsOf, slotAt, slotPlace, slotsPut}
-use Rattle.page.specs.Header.{headed, header, shelfTested}
+use Rattle.page.specs.Header.{configurationTested, headed, header}
 use Rattle.page.specs.Header as pages
 use Rattle.page.proofs.HeaderTests.{head-put}
-use Rattle.page.proofs.PagePut.{length-header}
-use Rattle.page.proofs.PageWritten.{fits-bytes, page-fits, page-out}
+use Rattle.page.proofs.HeaderBothWays.{length-tested}
+use Rattle.page.proofs.SlotBounds.{configuration-there, slots-bound}
+use Rattle.page.proofs.PagePut.{length-header, length-page, page-placed}
 use Rattle.threshold_rows.specs.Rows.{onPage, inRecord, rowPlace, rowsTested}
 use Rattle.threshold_page_in.specs.Page.{thresholdRow, thresholdPage}
-use Rattle.threshold_page_in.specs.Read.{recordHead, headPut, thresholdRead, thresholdRecord}
-use Rattle.threshold_page_in.specs.Rewritten.{entriesIn, recordTested, pageAgain}
+use Rattle.threshold_page_in.specs.Read.{recordHead, headPut, bytesTested, thresholdTested, thresholdRead, thresholdRecord}
+use Rattle.threshold_page_in.specs.Rewritten.{entriesIn, entriesTested, recordTested, pageAgain}
 
 pub row-length : (s : List ℕ) (i : ℕ) → length (thresholdRow s i) ≡ 4
 unfolding thresholdRow thresholdsAt
@@ -37,49 +38,62 @@ row-length s i = go (slotAt s i .overall)
     go true = refl
     go false = refl
 
--- the writer from a shelf
-module _ (s out : List ℕ) where
-  pub no-shelf : wellFormed s ≡ false → written.Refused ShelfNotWellFormed ≡ writes (shelfTested s) (thresholdPage s) out
-  no-shelf e = rw e
+-- the page of a shelf
+module _ (s : List ℕ) {n : ℕ} (e : n ≡ slotsOf s) where
+  pub shelf-placed : (out : List ℕ) {x y : List ℕ} → slotPlace n ≤ length out → x ≡ pages.headPut s out 0x05 0 n → y ≡ slotsPut (thresholdRow s) x n
+      → y ≡ placed (thresholdPage s) out
+  unfolding thresholdPage
+  shelf-placed out l u v = rw (← e) (page-placed (thresholdRow s) (row-length s) s out 0x05 0 n l u v)
 
-  module _ {n k : ℕ} {w : Written} (e : n ≡ slotsOf s) (p : k ≡ slotPlace n) (q : w ≡ fitted k (length out)) where
-    fits : w ≡ fitted (length (thresholdPage s)) (length out)
-    unfolding thresholdPage
-    fits = rw (← e) (page-fits (thresholdRow s) (row-length s) s out 0x05 0 n p q)
+  pub page-length : {k : ℕ} → k ≡ slotPlace n → k ≡ length (thresholdPage s)
+  unfolding thresholdPage
+  page-length q = rw (← e) (q ∙ sym (length-page (thresholdRow s) (row-length s) s 0x05 0 n))
 
-    pub shelf-writes : wellFormed s ≡ true → w ≡ writes (shelfTested s) (thresholdPage s) out
-    shelf-writes h = rw h fits
+-- the page's own tests
+module _ (c p : List ℕ) (n : ℕ) {b : ℕ} (x : b ≡ getD p 1 0) where
+  pub byte-refused : (b ≡ 0 → ⊥) → answer.Refused NotAllowed ≡ bytesTested c p n
+  unfolding bytesTested
+  byte-refused t = sym (rw (← x, ne-eqb b 0 t))
 
-    pub shelf-out : {m : ℕ} {x y : List ℕ} → x ≡ pages.headPut s out 0x05 0 n → y ≡ slotsPut (thresholdRow s) x n → w ≡ written.Bytes m
-        → y ≡ outAfter w (thresholdPage s) out
-    unfolding thresholdPage
-    shelf-out u v r = rw (← e) (page-out (thresholdRow s) (row-length s) s out 0x05 0 n p q u v r)
+  pub rows-last : {a : Answer} → b ≡ 0 → a ≡ rowsTested c p onPage n → a ≡ bytesTested c p n
+  unfolding bytesTested
+  rows-last t v = v ∙ sym (rw (← x, eq-eqb b 0 t))
 
--- the reader
-module _ (c p : List ℕ) where
-  pub no-configuration : configurationFormed c ≡ false → answer.Refused ShelfNotWellFormed ≡ thresholdRead c p
-  unfolding thresholdRead
-  no-configuration e = rw e
+pub parts-read : (c p : List ℕ) → configurationFormed c ≡ true → headed c p 0x05 (slotsOf c) ≡ answer.Accepted → getD p 1 0 ≡ 0
+    → rowsTested c p onPage (slotsOf c) ≡ answer.Accepted → thresholdRead c p ≡ answer.Accepted
+unfolding thresholdRead thresholdTested bytesTested
+parts-read c p f h o r = rw (f, h, eq-eqb (getD p 1 0) 0 o, r)
 
-  module _ (e : configurationFormed c ≡ true) {n : ℕ} (q : n ≡ slotsOf c) where
-    pub no-head : {a : Answer} {r : Refusal} → a ≡ headed c p 0x05 n → a ≡ answer.Refused r → a ≡ thresholdRead c p
-    unfolding thresholdRead
-    no-head h u = u ∙ sym (rw (e, ← q, ← h, u))
+-- what an accepted page says
+module _ (c p : List ℕ) (a : thresholdRead c p ≡ answer.Accepted) where
+  pub read-parts : (configurationFormed c ≡ true) × (headed c p 0x05 (slotsOf c) ≡ answer.Accepted) × (getD p 1 0 ≡ 0)
+      × (rowsTested c p onPage (slotsOf c) ≡ answer.Accepted)
+  unfolding thresholdRead thresholdTested bytesTested
+  read-parts =
+      let n = slotsOf c in
+      let r3 : Answer = rowsTested c p onPage n in
+      let r2 : Answer = unless (eqb (getD p 1 0) 0) NotAllowed r3 in
+      let h1 = held-both (configurationTested c) (next (headed c p 0x05 n) r2) a in
+      let h2 = held-both (headed c p 0x05 n) r2 (h1 .1) in
+      let h3 = held (eqb (getD p 1 0) 0) NotAllowed r3 (h2 .1) in
+      (held (configurationFormed c) ShelfNotWellFormed answer.Accepted (h1 .0) .0, h2 .0, eqb-true (getD p 1 0) 0 (h3 .0), h3 .1)
 
-    module _ {a : Answer} (h : a ≡ headed c p 0x05 n) (u : a ≡ answer.Accepted) where
-      pub other-byte : eqb (getD p 1 0) 0 ≡ false → answer.Refused NotAllowed ≡ thresholdRead c p
-      unfolding thresholdRead
-      other-byte t = sym (rw (e, ← q, ← h, u, t))
+  pub read-front : HasFront c
+  read-front = configuration-there c (read-parts .0)
 
-      pub slots-asked : {t : Answer} → eqb (getD p 1 0) 0 ≡ true → t ≡ rowsTested c p onPage n → t ≡ thresholdRead c p
-      unfolding thresholdRead
-      slots-asked o v = v ∙ sym (rw (e, ← q, ← h, u, o))
+  -- the bytes that are read and written for the record
+  module _ {n : ℕ} (e : n ≡ slotsOf c) where
+    pub page-there : slotPlace n ≤ length p
+    page-there = omega (arith, length-tested c p 0x05 (slotsOf c) (read-parts .1))
 
--- what the reader leaves
-pub record-out : (c p r : List ℕ) {n : ℕ} {x y : List ℕ} → n ≡ slotsOf c → rowPlace inRecord n ≤ length r → x ≡ headPut r n
-    → y ≡ putBytes x inRecord (bytesAt p onPage (4 * n)) → y ≡ recordAfter answer.Accepted (thresholdRecord c p) r
+    pub entries-there : (fields : List ℕ) → length fields ≡ rowPlace inRecord (mostTypes + mostElements) → rowPlace inRecord n ≤ length fields
+    entries-there fields l = omega (arith, l, slots-bound c (read-front .0))
+
+-- what the reader hands over
+pub record-placed : (c p r : List ℕ) {n : ℕ} {x y : List ℕ} → n ≡ slotsOf c → rowPlace inRecord n ≤ length r → x ≡ headPut r n
+    → y ≡ putBytes x inRecord (bytesAt p onPage (4 * n)) → y ≡ placed (thresholdRecord c p) r
 unfolding thresholdRecord
-record-out c p r {n} {x} {y} e l u v =
+record-placed c p r {n} {x} {y} e l u v =
     let f = bytesAt p onPage (4 * n) in
     let z = length-bytes-at p onPage (4 * n) in
     v
@@ -88,48 +102,46 @@ record-out c p r {n} {x} {y} e l u v =
     ∙ ap (λ (j : ℕ). recordHead n ++ f ++ drop j r) (sym (length-append (recordHead n) f))
     ∙ ap (λ (m : ℕ). recordHead m ++ bytesAt p onPage (4 * m) ++ drop (length (recordHead m ++ bytesAt p onPage (4 * m))) r) e
 
--- the writer from a record
-module _ (c r out : List ℕ) where
-  pub again-no-configuration : configurationFormed c ≡ false → written.Refused ShelfNotWellFormed ≡ writes (recordTested c r) (pageAgain c r) out
-  unfolding recordTested
-  again-no-configuration e = rw e
+-- the entries of a record, from what the calls say
+module _ (c r : List ℕ) (n : ℕ) {k : ℕ} (x : k ≡ entriesIn r) where
+  pub other-entries : (k ≡ n → ⊥) → answer.Refused WantedList ≡ entriesTested c r n
+  unfolding entriesTested
+  other-entries t = sym (rw (← x, ne-eqb k n t))
 
-  module _ (e : configurationFormed c ≡ true) {n : ℕ} (q : n ≡ slotsOf c) where
-    pub other-entries : eqb (entriesIn r) n ≡ false → written.Refused WantedList ≡ writes (recordTested c r) (pageAgain c r) out
-    unfolding recordTested
-    other-entries t = rw (e, ← q, t)
+  pub entries-last : {a : Answer} → k ≡ n → a ≡ rowsTested c r inRecord n → a ≡ entriesTested c r n
+  unfolding entriesTested
+  entries-last t v = v ∙ sym (rw (← x, eq-eqb k n t))
 
-    module _ (u : eqb (entriesIn r) n ≡ true) {a : Answer} (v : a ≡ rowsTested c r inRecord n) where
-      pub rows-refused : {x : Refusal} {w : Written} → a ≡ answer.Refused x → w ≡ passedOn a
-          → (w ≡ writes (recordTested c r) (pageAgain c r) out) × (out ≡ outAfter w (pageAgain c r) out)
-      unfolding recordTested
-      rows-refused {x} {w} t h = let k : w ≡ written.Refused x = h ∙ ap passedOn t in (k ∙ sym (rw (e, ← q, u, ← v, t)), rw k)
+pub record-front : (c r : List ℕ) {a : Answer} → a ≡ recordTested c r → a ≡ answer.Accepted → HasFront c
+unfolding recordTested
+record-front c r h u =
+    let e = held-both (configurationTested c) (entriesTested c r (slotsOf c)) (sym h ∙ u) in
+    configuration-there c (held (configurationFormed c) ShelfNotWellFormed answer.Accepted (e .0) .0)
 
-      pub again-writes : {w : Written} → a ≡ answer.Accepted → w ≡ fitted (length (pageAgain c r)) (length out)
-          → w ≡ writes (recordTested c r) (pageAgain c r) out
-      unfolding recordTested
-      again-writes t h = rw (e, ← q, u, ← v, t) h
+-- the page again
+module _ (c r : List ℕ) {n : ℕ} (e : n ≡ slotsOf c) where
+  abbrev again : List ℕ
+  again = header c 0x05 0 n ++ bytesAt r inRecord (4 * n)
 
-  module _ {n k : ℕ} {w : Written} (e : n ≡ slotsOf c) (p : k ≡ slotPlace n) (q : w ≡ fitted k (length out)) where
-    pub again-fits : w ≡ fitted (length (pageAgain c r)) (length out)
-    unfolding pageAgain
-    again-fits =
-        let f = bytesAt r inRecord (4 * n) in
-        let h = header c 0x05 0 n in
-        let l : length (h ++ f) ≡ slotPlace n = length-append h f ∙ rw (length-header c 0x05 0 n, length-bytes-at r inRecord (4 * n)) in
-        rw (← e) (q ∙ ap (λ (m : ℕ). fitted m (length out)) (p ∙ sym l))
+  length-again : length again ≡ slotPlace n
+  length-again =
+      length-append (header c 0x05 0 n) (bytesAt r inRecord (4 * n))
+      ∙ rw (length-header c 0x05 0 n, length-bytes-at r inRecord (4 * n))
 
-    pub again-out : {m : ℕ} {x y : List ℕ} → x ≡ pages.headPut c out 0x05 0 n → y ≡ putBytes x onPage (bytesAt r inRecord (4 * n)) → w ≡ written.Bytes m
-        → y ≡ outAfter w (pageAgain c r) out
-    unfolding pageAgain
-    again-out {m} {x} {y} u v b =
-        let f = bytesAt r inRecord (4 * n) in
-        let h = header c 0x05 0 n in
-        let z = length-bytes-at r inRecord (4 * n) in
-        let l = fits-bytes k (length out) (sym q ∙ b) in
-        let j : onPage + length f ≡ m = omega (arith, z, l .1, p) in
-        rw (← e)
-        (v
-        ∙ ap (λ (o : List ℕ). putBytes o onPage f) (u ∙ head-put c out 0x05 0 n (omega (arith, l .0, p)))
-        ∙ bytes-next h out f onPage (length-header c 0x05 0 n) (omega (arith, z, l .0, p))
-        ∙ rw b (ap (λ (o : ℕ). h ++ f ++ drop o out) j))
+  pub again-length : {k : ℕ} → k ≡ slotPlace n → k ≡ length (pageAgain c r)
+  unfolding pageAgain
+  again-length q = rw (← e) (q ∙ sym length-again)
+
+  pub again-placed : (out : List ℕ) {x y : List ℕ} → slotPlace n ≤ length out → x ≡ pages.headPut c out 0x05 0 n → y ≡ putBytes x onPage (bytesAt r inRecord (4 * n))
+      → y ≡ placed (pageAgain c r) out
+  unfolding pageAgain
+  again-placed out l u v =
+      let f = bytesAt r inRecord (4 * n) in
+      let h = header c 0x05 0 n in
+      let z = length-bytes-at r inRecord (4 * n) in
+      let j : onPage + length f ≡ length again = omega (arith, z, length-again) in
+      rw (← e)
+      (v
+      ∙ ap (λ (o : List ℕ). putBytes o onPage f) (u ∙ head-put c out 0x05 0 n (omega arith))
+      ∙ bytes-next h out f onPage (length-header c 0x05 0 n) (omega (arith, z))
+      ∙ ap (λ (o : ℕ). h ++ f ++ drop o out) j)

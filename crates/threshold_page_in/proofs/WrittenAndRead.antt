@@ -4,7 +4,7 @@ use mathlib.Core.Bool.{true, false}
 use mathlib.Core.List.{List, [], _∷_, _++_}
 use Prim.Native.Nat.{ℕ, _+_, _*_, _<_, _≤_}
 use native.Mathlib.Omega.{arith}
-use lib.Dec.{eqb, ltb}
+use lib.Dec.{ltb}
 use lib.ListN.{getD, take}
 use lib.Seq.{drop-at, take-all}
 use Rattle.bits.specs.Choice.{pick}
@@ -31,7 +31,7 @@ use Rattle.page.proofs.HeaderBothWays.{head-written}
 use Rattle.threshold_rows.specs.Rows.{onPage, rowAt, firstSet, rowOffending, rowHad, rowOrdered}
 use Rattle.threshold_page_in.specs.Page.{thresholdRow, thresholdPage}
 use Rattle.threshold_page_in.specs.Read.{recordHead, thresholdRead, thresholdRecord}
-use Rattle.threshold_page_in.proofs.Refusals.{row-length, slots-asked}
+use Rattle.threshold_page_in.proofs.Refusals.{row-length, parts-read}
 use Rattle.threshold_rows.proofs.RowTests.{Fine, fine-rows}
 
 abbrev fourZeros : List ℕ
@@ -125,10 +125,8 @@ module _ (s : List ℕ) (w : wellFormed s ≡ true) where
   -- it is accepted
   pub told-read : thresholdRead (front s) (thresholdPage s) ≡ Accepted
   told-read =
-      sym
-      (slots-asked (front s) (thresholdPage s) (configuration-of s w) (sym (slots-same s)) (sym head-told) refl
-      (ap (λ (b : ℕ). eqb b 0) own)
-      (sym (fine-rows (front s) (thresholdPage s) onPage (slotsOf s) fine)))
+      parts-read (front s) (thresholdPage s) (configuration-of s w) (rw (slots-same s) head-told) own
+      (rw (slots-same s) (fine-rows (front s) (thresholdPage s) onPage (slotsOf s) fine))
 
   slots-told : bytesAt (thresholdPage s) onPage (4 * slotsOf s) ≡ joined (thresholdRow s) (slotsOf s)
   unfolding thresholdPage

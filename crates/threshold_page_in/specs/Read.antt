@@ -6,20 +6,24 @@ use lib.ListN.{getD}
 use Rattle.bits.specs.Numbers.{bytes}
 use Rattle.bits.specs.Places.{putFour}
 use Rattle.bits.specs.Rows.{bytesAt}
-use Rattle.refusals.specs.declared.Refusal.the-variants.{ShelfNotWellFormed, NotAllowed}
+use Rattle.refusals.specs.declared.Refusal.the-variants.{NotAllowed}
 use Rattle.refusals.specs.declared.Answer.{Answer}
 use Rattle.refusals.specs.Outcomes.{unless, next}
-use Rattle.shelf_formed.specs.Formed.{configurationFormed}
 use Rattle.page.specs.Slots.{slotsOf}
-use Rattle.page.specs.Header.{headed}
+use Rattle.page.specs.Header.{configurationTested, headed}
 use Rattle.threshold_rows.specs.Rows.{onPage, rowsTested}
 
--- 1: no configuration; 2 to 5: the header; 6: byte 1 is not zero; 6, 7, 8: the slots
+-- 6: byte 1 is not zero; 6, 7, 8: the slots
+unfoldable pub bytesTested : List ℕ → List ℕ → ℕ → Answer
+bytesTested c p n = unless (eqb (getD p 1 0) 0) NotAllowed (rowsTested c p onPage n)
+
+-- 2 to 5: the header of a page of n slots; 6, 7, 8: its bytes
+unfoldable pub thresholdTested : List ℕ → List ℕ → ℕ → Answer
+thresholdTested c p n = next (headed c p 0x05 n) (bytesTested c p n)
+
+-- 1: no configuration; 2 to 8: the page
 unfoldable pub thresholdRead : List ℕ → List ℕ → Answer
-thresholdRead c p =
-    unless (configurationFormed c) ShelfNotWellFormed
-    (next (headed c p 0x05 (slotsOf c))
-    (unless (eqb (getD p 1 0) 0) NotAllowed (rowsTested c p onPage (slotsOf c))))
+thresholdRead c p = next (configurationTested c) (thresholdTested c p (slotsOf c))
 
 -- two bytes that hold nothing, and the number of entries
 abbrev pub recordHead : ℕ → List ℕ

@@ -5,22 +5,23 @@ use lib.Dec.{eqb}
 use Rattle.bits.specs.Numbers.{big}
 use Rattle.bits.specs.Places.{twoAt}
 use Rattle.bits.specs.Rows.{bytesAt}
-use Rattle.refusals.specs.declared.Refusal.the-variants.{ShelfNotWellFormed, WantedList}
+use Rattle.refusals.specs.declared.Refusal.the-variants.{WantedList}
 use Rattle.refusals.specs.declared.Answer.{Answer}
-use Rattle.refusals.specs.Outcomes.{unless}
-use Rattle.shelf_formed.specs.Formed.{configurationFormed}
+use Rattle.refusals.specs.Outcomes.{unless, next}
 use Rattle.page.specs.Slots.{slotsOf}
-use Rattle.page.specs.Header.{header}
+use Rattle.page.specs.Header.{configurationTested, header}
 use Rattle.threshold_rows.specs.Rows.{inRecord, rowsTested}
 
 abbrev pub entriesIn : List ℕ → ℕ
 entriesIn r = big (twoAt r 2)
 
--- 1: no configuration; 9: a wrong number of entries; 6, 7, 8: the entries
+-- 9: another number of entries than n; 6, 7, 8: the entries
+unfoldable pub entriesTested : List ℕ → List ℕ → ℕ → Answer
+entriesTested c r n = unless (eqb (entriesIn r) n) WantedList (rowsTested c r inRecord n)
+
+-- 1: no configuration; 9, 6, 7, 8: the entries
 unfoldable pub recordTested : List ℕ → List ℕ → Answer
-recordTested c r =
-    unless (configurationFormed c) ShelfNotWellFormed
-    (unless (eqb (entriesIn r) (slotsOf c)) WantedList (rowsTested c r inRecord (slotsOf c)))
+recordTested c r = next (configurationTested c) (entriesTested c r (slotsOf c))
 
 -- the slots are the entries as they are
 unfoldable pub pageAgain : List ℕ → List ℕ → List ℕ

@@ -2,15 +2,15 @@
 use page::header;
 use page::slots;
 use page::slots::Slot;
-use refusals::Refusal;
+use page::testing;
+use refusals::Tested;
 use refusals::Written;
 use shelf::elements;
-use shelf_formed::Opened;
 ghost use mathlib.Core.Path.{_≡_};
 ghost use mathlib.Core.List.{[], _∷_};
 ghost use Rattle.bits.specs.Choice.{pick};
 ghost use Rattle.shelf.specs.Elements.{thresholdsAt};
-ghost use Rattle.refusals.specs.Outcomes.{writes, outAfter};
+ghost use Rattle.refusals.specs.Outcomes.{placed, WritesPage};
 ghost use Rattle.page.specs.Slots.{slotsOf, slotsPut, HasElements};
 ghost use Rattle.page.specs.Header.{shelfTested, HasPage};
 ghost use Rattle.threshold_page_in.specs.Page.{thresholdRow, thresholdPage};
@@ -45,20 +45,27 @@ fn put_slots(shelf: &[u8], out: &mut [u8], n: u16)
     }
 }
 
-pub fn write(shelf: &[u8], out: &mut [u8]) -> Written
-    ensures { λ r. ⌜ r ≡ writes (shelfTested (now (shelf .entry))) (thresholdPage (now (shelf .entry))) (now (out .entry)) ⌝ }
-    ensures { λ r. ⌜ now (out .exit) ≡ outAfter r (thresholdPage (now (shelf .entry))) (now (out .entry)) ⌝ }
+// The page of n slots into an output buffer that holds it.
+fn put(shelf: &[u8], n: u16, out: &mut [u8])
+    requires { ⌜ HasPage (now shelf) (now out) ⌝ }
+    requires { ⌜ n ≡ slotsOf (now shelf) ⌝ }
+    ensures { λ _. ⌜ now (out .exit) ≡ placed (thresholdPage (now (shelf .entry))) (now (out .entry)) ⌝ }
 {
-    let opened = shelf_formed::open_shelf(shelf);
-    let Opened::Shelf(sizes) = opened else {
-        return Written::Refused(Refusal::ShelfNotWellFormed);
+    header::put(shelf, out, CODE, 0, n);
+    put_slots(shelf, out, n);
+}
+
+pub fn write(shelf: &[u8], out: &mut [u8]) -> Written
+    ensures { λ r. ⌜ WritesPage (shelfTested (now (shelf .entry))) (thresholdPage (now (shelf .entry))) (now (out .entry)) r (now (out .exit)) ⌝ }
+{
+    let tested = testing::shelf_slots(shelf);
+    let Tested::Slots(n) = tested else {
+        return Written::refused(tested.answer());
     };
-    let n = sizes.types + sizes.elements;
     let fit = Written::fit(slots::slot_place(n), out.len());
     let Written::Bytes(_) = fit else {
         return fit;
     };
-    header::put(shelf, out, CODE, 0, n);
-    put_slots(shelf, out, n);
+    put(shelf, n, out);
     fit
 }

@@ -7,7 +7,6 @@ use Prim.Native.Nat.{ℕ, _+_, _<_}
 use native.Mathlib.Nat.{add-zero}
 use native.Mathlib.Omega.{arith}
 use lib.ListN.{length, getD}
-use Rattle.bits.specs.Choice.{pick}
 use Rattle.bits.specs.Places.{fourAt}
 use Rattle.bits.specs.Rows.{joined}
 use Rattle.bits.proofs.Logic.{by-case, pick-no}
@@ -27,14 +26,10 @@ use Rattle.shelf_formed.proofs.ElementsPut.{length-same, front-same, four-same,
 use Rattle.page.specs.Slots.{slotsOf, slotPlace}
 use Rattle.page.specs.Places.{ownSlot, overallSlot, placesOf}
 use Rattle.page.proofs.ElementSlots.{own-there, overall-there}
-use Rattle.threshold_page_out.specs.Tests.{valid}
+use Rattle.threshold_page_out.specs.Tests.{valid, after}
 use Rattle.threshold_page_out.specs.Taken.{thresholdsAfter, takenFrom, storedThresholds, thresholdsIn, withThresholds}
 use Rattle.threshold_page_out.proofs.ValidPage.{valid-formed, after-had, after-ordered}
 use Rattle.threshold_page_out.proofs.PageActs.{thresholds-place, after-length}
-
--- the shelf after the call, as its contract says
-abbrev pub after : List ℕ → List ℕ → List ℕ
-after s p = pick (valid s p) (withThresholds s (takenFrom s p)) s
 
 module _ (s p : List ℕ) where
   abbrev n : ℕ

@@ -5,7 +5,6 @@ use mathlib.Core.List.{List}
 use Prim.Native.Nat.{ℕ, _+_, _<_}
 use native.Mathlib.Omega.{arith}
 use lib.ListN.{length}
-use Rattle.bits.specs.Choice.{pick}
 use Rattle.bits.specs.Places.{fourAt, foursPut}
 use Rattle.bits.proofs.FoursPut.{fours-next, fours-length, fours-joined}
 use Rattle.element.specs.Thresholds.{taken}
@@ -20,9 +19,9 @@ use Rattle.shelf_formed.proofs.ElementsPut.{front-after, row-later}
 use Rattle.page.specs.declared.places.Places.{Places}
 use Rattle.page.specs.Places.{placesOf, HasSlots}
 use Rattle.page.specs.Header.{HasPage}
-use Rattle.page.proofs.HeaderBothWays.{asked-has}
+use Rattle.page.proofs.HeaderBothWays.{tested-has}
 use Rattle.page.proofs.ElementSlots.{places-alike, element-there}
-use Rattle.threshold_page_out.specs.Tests.{thresholdsTested, valid}
+use Rattle.threshold_page_out.specs.Tests.{thresholdsTested, valid, after}
 use Rattle.threshold_page_out.proofs.ValidPage.{valid-headed}
 use Rattle.threshold_page_out.specs.Taken.{takenAt, thresholdsAfter, takenFrom, withThresholds}
 
@@ -76,14 +75,14 @@ module _ (s p : List ℕ) where
 
   -- the call as a whole
   module _ {a : Answer} (h : a ≡ thresholdsTested s p) where
-    pub refused-after : {r : Refusal} → a ≡ Refused r → s ≡ pick (valid s p) (withThresholds s (takenFrom s p)) s
+    pub refused-after : {r : Refusal} → a ≡ Refused r → s ≡ after s p
     unfolding valid
     refused-after u = sym (rw (← h, u))
 
     pub accepted-room : a ≡ Accepted → HasPage s p
     unfolding valid
-    accepted-room u = let v : valid s p ≡ true = rw (← h, u) in asked-has s p 0x05 (valid-headed s p v)
+    accepted-room u = let v : valid s p ≡ true = rw (← h, u) in tested-has s p 0x05 (valid-headed s p v)
 
-    pub accepted-after : {x : List ℕ} → a ≡ Accepted → x ≡ withThresholds s (takenFrom s p) → x ≡ pick (valid s p) (withThresholds s (takenFrom s p)) s
+    pub accepted-after : {x : List ℕ} → a ≡ Accepted → x ≡ withThresholds s (takenFrom s p) → x ≡ after s p
     unfolding valid
     accepted-after u e = e ∙ sym (rw (← h, u))

@@ -22,15 +22,15 @@ use Rattle.shelf_formed.proofs.FormedShelf.{in-element}
 use Rattle.page.specs.Slots.{slotsOf, slotAt, slotPlace}
 use Rattle.page.specs.Places.{ownSlot, overallSlot, placesOf}
 use Rattle.page.specs.Header.{pageTested}
-use Rattle.page.proofs.HeaderTests.{asked-formed}
+use Rattle.page.proofs.HeaderTests.{tested-formed}
 use Rattle.page.proofs.ElementSlots.{own-kind, overall-kind, own-there, overall-there}
 use Rattle.threshold_rows.specs.Rows.{onPage, rowHad, allHad}
 use Rattle.threshold_page_out.specs.Taken.{thresholdsAfter}
-use Rattle.threshold_page_out.specs.Tests.{elementOrdered, allOrdered, thresholdsTested, valid}
+use Rattle.threshold_page_out.specs.Tests.{elementOrdered, allOrdered, bytesTested, thresholdsTested, valid}
 
 module _ (s p : List ℕ) (v : valid s p ≡ true) where
   parts : (pageTested s p 0x05 ≡ Accepted) × (allHad s p onPage (slotsOf s) ≡ true) × (allOrdered s p ≡ true)
-  unfolding valid thresholdsTested
+  unfolding valid thresholdsTested bytesTested
   parts =
       let r3 : Answer = unless (allOrdered s p) ThresholdOrder Accepted in
       let r2 : Answer = unless (allHad s p onPage (slotsOf s)) NoSuchThreshold r3 in
@@ -44,7 +44,7 @@ module _ (s p : List ℕ) (v : valid s p ≡ true) where
   valid-headed = parts .0
 
   pub valid-formed : wellFormed s ≡ true
-  valid-formed = asked-formed s p 0x05 valid-headed
+  valid-formed = tested-formed s p 0x05 valid-headed
 
   row-had : (i : ℕ) → i < slotsOf s → had (slotAt s i .kind) (fourAt p (slotPlace i)) ≡ true
   unfolding allHad rowHad

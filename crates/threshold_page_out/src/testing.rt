@@ -3,15 +3,16 @@ use crate::acting;
 use element_verdict::thresholds;
 use page::places;
 use page::places::Places;
-use page::slots;
 use refusals::Answer;
 use refusals::Refusal;
+use refusals::Tested;
 use shelf::types;
 ghost use mathlib.Core.Path.{_≡_};
 ghost use Rattle.shelf.specs.Limits.{HasElement};
 ghost use Rattle.page.specs.Places.{placesOf, HasSlots};
+ghost use Rattle.page.specs.Slots.{slotsOf};
 ghost use Rattle.page.specs.Header.{HasPage};
-ghost use Rattle.threshold_page_out.specs.Tests.{elementOrdered, allOrdered, thresholdsTested};
+ghost use Rattle.threshold_page_out.specs.Tests.{elementOrdered, allOrdered, bytesTested, thresholdsTested};
 
 const CODE: u8 = 0x05;
 
@@ -44,21 +45,30 @@ fn all_ordered(shelf: &[u8], page: &[u8]) -> bool
     true
 }
 
-pub fn test(shelf: &[u8], page: &[u8]) -> Answer
-    ensures { λ r. ⌜ r ≡ thresholdsTested (now (shelf .entry)) (now (page .entry)) ⌝ }
+// The page's own tests. 7 is tested of all slots before 8 of any element.
+fn test_bytes(shelf: &[u8], page: &[u8], n: u16) -> Answer
+    requires { ⌜ HasPage (now shelf) (now page) ⌝ }
+    requires { ⌜ n ≡ slotsOf (now shelf) ⌝ }
+    ensures { λ r. ⌜ r ≡ bytesTested (now (shelf .entry)) (now (page .entry)) n ⌝ }
 {
-    let tested = page::testing::page(shelf, page, CODE);
-    let Answer::Accepted = tested else {
-        return tested;
-    };
     if bits::byte_at(page, 1) != 0 {
         return Answer::Refused(Refusal::NotAllowed);
     }
-    if !threshold_rows::all_had(shelf, page, threshold_rows::ON_PAGE, slots::count(shelf)) {
+    if !threshold_rows::all_had(shelf, page, threshold_rows::ON_PAGE, n) {
         return Answer::Refused(Refusal::NoSuchThreshold);
     }
     if !all_ordered(shelf, page) {
         return Answer::Refused(Refusal::ThresholdOrder);
     }
-    tested
+    Answer::Accepted
+}
+
+pub fn test(shelf: &[u8], page: &[u8]) -> Answer
+    ensures { λ r. ⌜ r ≡ thresholdsTested (now (shelf .entry)) (now (page .entry)) ⌝ }
+{
+    let tested = page::testing::page_slots(shelf, page, CODE);
+    let Tested::Slots(n) = tested else {
+        return tested.answer();
+    };
+    test_bytes(shelf, page, n)
 }

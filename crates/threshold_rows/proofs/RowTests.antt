@@ -72,7 +72,7 @@ module _ (c b : List ℕ) (k : ℕ) where
         (below-all (rowHad c b k) n (λ i l. h i l .1))
         (below-all (rowOrdered c b k) n (λ i l. h i l .2)))
 
--- a row is asked by its bytes alone, wherever they stand
+-- a row is tested by its bytes alone, wherever they stand
 pub fine-by : (c b d : List ℕ) (k m i : ℕ) → rowAt b k i ≡ rowAt d m i → Fine c d m i → Fine c b k i
 unfolding rowOffending rowHad rowOrdered
 fine-by c b d k m i e h = (

@@ -58,7 +58,7 @@ rowOrdered c b k i = ordered (slotAt c i .kind) (rowAt b k i)
 unfoldable pub allOrdered : List ℕ → List ℕ → ℕ → ℕ → Bool
 allOrdered c b k n = allBelow (rowOrdered c b k) n
 
--- 6: a byte of an overall row; 7: a byte that the row's type doesn't have; 8: the order. Each is asked of all rows before the next
+-- 6: a byte of an overall row; 7: a byte that the row's type doesn't have; 8: the order. Each is tested of all rows before the next
 unfoldable pub rowsTested : List ℕ → List ℕ → ℕ → ℕ → Answer
 rowsTested c b k n =
     unless (eqb (offence c b k n) (rowPlace k n)) NotAllowed

@@ -1,6 +1,6 @@
 // Rows of four threshold bytes in a block: the slots of a page, or the entries of a threshold record.
 //
-// Page and record are asked the same of their rows, so the tests take a block and the place where its rows start.
+// The rows of a page and of a record are tested alike, so the tests take a block and the place where its rows start.
 use element_verdict::thresholds;
 use page::slots;
 use refusals::Answer;

@@ -1,16 +1,18 @@
 -- `ses::rewrite_configuration` meets its contract. Assumes nothing.
-use mathlib.Core.Path.{refl, sym, _∙_}
-use denote.Ref.{now}
-use Rattle.shelf_formed.proofs.Opening.{configuration-sizes, not-configuration}
-use Rattle.page.proofs.SlotBounds.{configuration-there}
+use Rattle.ses.proofs.ForC.{front-written}
 use Rattle.configuration_page.specs.Page.{configurationPage}
-use Rattle.ses.proofs.ForC.{configuration-refused, configuration-taken}
+use Rattle.page.proofs.SlotsCounted.{configuration-counted}
+use Rattle.page.specs.Header.{configurationTested}
+use Rattle.page.specs.Slots.{slotsOf}
+use Rattle.refusals.proofs.Left.{write-refused}
+use Rattle.refusals.proofs.Stages.{slots-told, answer-told}
+use denote.Ref.{now}
 use borrow.Author.Needs.{needs}
 use Rattle.ses.proofs.rewrite_configuration.Statement.{statement}
 use Rattle.ses.proofs.rewrite_configuration.Tie as tie
 
-open-configuration-requires : tie.Need-open-configuration-requires
-open-configuration-requires c κs = search needs
+configuration-slots-requires : tie.Need-configuration-slots-requires
+configuration-slots-requires c κs = search needs
 
 enum-told : tie.Need-enum-told
 enum-told c = search needs
@@ -18,25 +20,45 @@ enum-told c = search needs
 enum-told-2 : tie.Need-enum-told-2
 enum-told-2 c = search needs
 
+answer-requires : tie.Need-answer-requires
+answer-requires c κs = search needs
+
+refused-requires : tie.Need-refused-requires
+refused-requires c κs = search needs
+
 returns : tie.Need-returns
-returns c = let s = now (c .before .before .before .before .before .args .configuration) in (configuration-refused s (configurationPage s) (now (c .before .before .before .before .before .args .out)) (not-configuration s (sym (c .before .before .open-configuration .ensures) ∙ c .enum-told2 .given .1)), refl)
+returns c =
+    let a = c .before .before .before .before .before .before .before .args in
+    let s = now (a .configuration) in
+    let e = answer-told (configurationTested s) (slotsOf s) (c .before .before .before .before .configuration-slots .ensures)
+    (c .before .before .enum-told2 .given .1) (c .before .answer .ensures) in
+    write-refused (configurationTested s) (configurationPage s) (now (a .out)) (e .0) (e .1) (c .refused .ensures)
 
 write-requires : tie.Need-write-requires
-write-requires c κs = let s = now (c .before .before .before .before .before .before .args .configuration) in configuration-there s (configuration-sizes s (sym (c .before .before .before .open-configuration .ensures) ∙ c .before .enum-told .given .1) .0)
+write-requires c κs =
+    configuration-counted (now (c .before .before .before .before .before .before .args .configuration)) (c .before .enum-told .given .1)
+    (c .before .before .before .configuration-slots .ensures) .1
 
 same-length : tie.Need-same-length
 same-length c = search needs
 
 returns-2 : tie.Need-returns-2
-returns-2 c = let s = now (c .before .before .before .before .before .before .before .before .before .args .configuration) in (configuration-taken s (configurationPage s) (now (c .before .before .before .before .before .before .before .before .before .args .out)) (configuration-sizes s (sym (c .before .before .before .before .before .before .open-configuration .ensures) ∙ c .before .before .before .before .enum-told .given .1) .0) (c .before .before .write .ensures .0), c .before .before .write .ensures .1)
+returns-2 c =
+    let a = c .before .before .before .before .before .before .before .before .before .args in
+    let s = now (a .configuration) in
+    let e = slots-told (configurationTested s) (slotsOf s) (c .before .before .before .before .before .before .configuration-slots .ensures)
+    (c .before .before .before .before .enum-told .given .1) in
+    front-written (configurationTested s) (configurationPage s) (now (a .out)) (e .0) (c .before .before .write .ensures)
 
 pub rewrite-configuration-spec : {M : Type 1} → statement M
 rewrite-configuration-spec =
     tie.close
     (tie.spec
-    open-configuration-requires
+    configuration-slots-requires
     enum-told
     enum-told-2
+    answer-requires
+    refused-requires
     returns
     write-requires
     same-length

@@ -1,16 +1,18 @@
 -- `ses::write_configuration` meets its contract. Assumes nothing.
-use mathlib.Core.Path.{refl, sym, _∙_}
-use denote.Ref.{now}
-use Rattle.shelf_formed.proofs.Opening.{formed-sizes, not-formed}
-use Rattle.page.proofs.SlotBounds.{shelf-there}
+use Rattle.ses.proofs.ForC.{front-written}
 use Rattle.configuration_page.specs.Page.{configurationPage}
-use Rattle.ses.proofs.ForC.{shelf-refused, shelf-taken}
+use Rattle.page.proofs.SlotsCounted.{shelf-counted}
+use Rattle.page.specs.Header.{shelfTested}
+use Rattle.page.specs.Slots.{slotsOf}
+use Rattle.refusals.proofs.Left.{write-refused}
+use Rattle.refusals.proofs.Stages.{slots-told, answer-told}
+use denote.Ref.{now}
 use borrow.Author.Needs.{needs}
 use Rattle.ses.proofs.write_configuration.Statement.{statement}
 use Rattle.ses.proofs.write_configuration.Tie as tie
 
-open-shelf-requires : tie.Need-open-shelf-requires
-open-shelf-requires c κs = search needs
+shelf-slots-requires : tie.Need-shelf-slots-requires
+shelf-slots-requires c κs = search needs
 
 enum-told : tie.Need-enum-told
 enum-told c = search needs
@@ -18,25 +20,43 @@ enum-told c = search needs
 enum-told-2 : tie.Need-enum-told-2
 enum-told-2 c = search needs
 
+answer-requires : tie.Need-answer-requires
+answer-requires c κs = search needs
+
+refused-requires : tie.Need-refused-requires
+refused-requires c κs = search needs
+
 returns : tie.Need-returns
-returns c = let s = now (c .before .before .before .before .before .args .shelf) in (shelf-refused s (configurationPage s) (now (c .before .before .before .before .before .args .out)) (not-formed s (sym (c .before .before .open-shelf .ensures) ∙ c .enum-told2 .given .1)), refl)
+returns c =
+    let a = c .before .before .before .before .before .before .before .args in
+    let s = now (a .shelf) in
+    let e = answer-told (shelfTested s) (slotsOf s) (c .before .before .before .before .shelf-slots .ensures)
+    (c .before .before .enum-told2 .given .1) (c .before .answer .ensures) in
+    write-refused (shelfTested s) (configurationPage s) (now (a .out)) (e .0) (e .1) (c .refused .ensures)
 
 write-requires : tie.Need-write-requires
-write-requires c κs = let s = now (c .before .before .before .before .before .before .args .shelf) in shelf-there s (formed-sizes s (sym (c .before .before .before .open-shelf .ensures) ∙ c .before .enum-told .given .1) .0)
+write-requires c κs = shelf-counted (now (c .before .before .before .before .before .before .args .shelf)) (c .before .enum-told .given .1) (c .before .before .before .shelf-slots .ensures) .1
 
 same-length : tie.Need-same-length
 same-length c = search needs
 
 returns-2 : tie.Need-returns-2
-returns-2 c = let s = now (c .before .before .before .before .before .before .before .before .before .args .shelf) in (shelf-taken s (configurationPage s) (now (c .before .before .before .before .before .before .before .before .before .args .out)) (formed-sizes s (sym (c .before .before .before .before .before .before .open-shelf .ensures) ∙ c .before .before .before .before .enum-told .given .1) .0) (c .before .before .write .ensures .0), c .before .before .write .ensures .1)
+returns-2 c =
+    let a = c .before .before .before .before .before .before .before .before .before .args in
+    let s = now (a .shelf) in
+    let e = slots-told (shelfTested s) (slotsOf s) (c .before .before .before .before .before .before .shelf-slots .ensures)
+    (c .before .before .before .before .enum-told .given .1) in
+    front-written (shelfTested s) (configurationPage s) (now (a .out)) (e .0) (c .before .before .write .ensures)
 
 pub write-configuration-spec : {M : Type 1} → statement M
 write-configuration-spec =
     tie.close
     (tie.spec
-    open-shelf-requires
+    shelf-slots-requires
     enum-told
     enum-told-2
+    answer-requires
+    refused-requires
     returns
     write-requires
     same-length

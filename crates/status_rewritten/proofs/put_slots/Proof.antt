@@ -50,7 +50,15 @@ loop-less : tie.Need-loop-less Inv-loop μ-loop
 loop-less c = omega arith
 
 loop-again : tie.Need-loop-again Inv-loop μ-loop
-loop-again c = let s = c .before .before .before .before .before .before .before .before .before .before .before .before .before .before .before .args in let l = c .before .before .before .before .before .before .before .before .before .before .loop in let r = c .before .before .before .before .before .before .before .before .run-to .ensures in (omega (arith, c .before .before .before .before .before .before .before .before .before .loop-test .taken), walk-on (now (s .configuration)) (l .i) r, fours-next slotPlace (slotRow (now (s .configuration)) (entryAt (now (s .fields)))) (now (s .out)) (l .i) (l .inv .2) (c .before .before .before .slot-place .ensures) (row-is (now (s .configuration)) (entryAt (now (s .fields))) (l .i) (slot-walked (now (s .configuration)) (l .i) r (c .before .before .before .before .before .before .before .slot-in .ensures)) (c .before .before .before .before .before .before .entry-at .ensures) (c .before .before .before .before .before .slot-bytes .ensures)) (c .before .before .put-four .ensures), l .inv .3)
+loop-again c =
+    let s = c .before .before .before .before .before .before .before .before .before .before .before .before .before .before .before .args in
+    let l = c .before .before .before .before .before .before .before .before .before .before .loop in
+    let r = c .before .before .before .before .before .before .before .before .run-to .ensures in (
+      omega (arith, c .before .before .before .before .before .before .before .before .before .loop-test .taken),
+      walk-on (now (s .configuration)) (l .i) r,
+      fours-next slotPlace (slotRow (now (s .configuration)) (entryAt (now (s .fields)))) (now (s .out)) (l .i) (l .inv .2) (c .before .before .before .slot-place .ensures) (row-is (now (s .configuration)) (entryAt (now (s .fields))) (l .i) (slot-walked (now (s .configuration)) (l .i) r (c .before .before .before .before .before .before .before .slot-in .ensures)) (c .before .before .before .before .before .before .entry-at .ensures) (c .before .before .before .before .before .slot-bytes .ensures)) (c .before .before .put-four .ensures),
+      l .inv .3,
+    )
 
 same-length : tie.Need-same-length Inv-loop μ-loop
 same-length c = let s = c .before .before .before .before .before .before .args in fours-length slotPlace (slotRow (now (s .configuration)) (entryAt (now (s .fields)))) (now (s .out)) (c .before .loop .i) (c .before .loop .inv .2)

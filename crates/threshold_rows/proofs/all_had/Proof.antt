@@ -38,7 +38,13 @@ are-had-requires c κs = search needs
 
 returns : tie.Need-returns Inv-loop μ-loop
 unfolding allHad
-returns c = let s = c .before .before .before .before .before .before .before .before .before .args in let l = c .before .before .before .before .before .loop in let h = row-had (now (s .configuration)) (now (s .block)) (s .start) (l .i) (c .before .before .before .run-to .ensures) (c .before .before .row-at .ensures) (c .before .are-had .ensures) in sym (below-fails (rowHad (now (s .configuration)) (now (s .block)) (s .start)) (s .n) (l .i) (c .before .before .before .before .loop-test .taken) (sym h ∙ not-true _ (c .if1 .taken)))
+returns c =
+    let s = c .before .before .before .before .before .before .before .before .before .args in
+    let l = c .before .before .before .before .before .loop in
+    let h = row-had (now (s .configuration)) (now (s .block)) (s .start) (l .i) (c .before .before .before .run-to .ensures)
+    (c .before .before .row-at .ensures) (c .before .are-had .ensures) in
+    sym
+    (below-fails (rowHad (now (s .configuration)) (now (s .block)) (s .start)) (s .n) (l .i) (c .before .before .before .before .loop-test .taken) (sym h ∙ not-true _ (c .if1 .taken)))
 
 add-i : tie.Need-add-i Inv-loop μ-loop
 add-i c = omega arith
@@ -47,7 +53,16 @@ loop-less : tie.Need-loop-less Inv-loop μ-loop
 loop-less c = omega arith
 
 loop-again : tie.Need-loop-again Inv-loop μ-loop
-loop-again c = let s = c .before .before .before .before .before .before .before .before .before .args in let l = c .before .before .before .before .before .loop in let r = c .before .before .before .run-to .ensures in let h = row-had (now (s .configuration)) (now (s .block)) (s .start) (l .i) r (c .before .before .row-at .ensures) (c .before .are-had .ensures) in (omega arith, walk-on (now (s .configuration)) (l .i) r, below-next (rowHad (now (s .configuration)) (now (s .block)) (s .start)) (l .i) (l .inv .2) (sym h ∙ not-false _ (c .if1 .left)))
+loop-again c =
+    let s = c .before .before .before .before .before .before .before .before .before .args in
+    let l = c .before .before .before .before .before .loop in
+    let r = c .before .before .before .run-to .ensures in
+    let h = row-had (now (s .configuration)) (now (s .block)) (s .start) (l .i) r (c .before .before .row-at .ensures) (c .before .are-had .ensures)
+    in (
+      omega arith,
+      walk-on (now (s .configuration)) (l .i) r,
+      below-next (rowHad (now (s .configuration)) (now (s .block)) (s .start)) (l .i) (l .inv .2) (sym h ∙ not-false _ (c .if1 .left)),
+    )
 
 returns-2 : tie.Need-returns-2 Inv-loop μ-loop
 unfolding allHad

@@ -38,7 +38,13 @@ row-offending-requires : tie.Need-row-offending-requires Inv-loop μ-loop
 row-offending-requires c κs = search needs
 
 returns : tie.Need-returns Inv-loop μ-loop
-returns c = let s = c .before .before .before .before .before .before .before .before .before .args in let l = c .before .before .before .before .before .loop in let h = row-offends (now (s .configuration)) (now (s .block)) (s .start) (l .i) (c .before .before .before .run-to .ensures) (c .before .before .row-at .ensures) (c .before .row-offending .ensures) in refused-row (now (s .configuration)) (now (s .block)) (s .start) (s .n) (l .i) (c .before .before .before .before .loop-test .taken) (l .inv .2) h (c .if1 .taken)
+returns c =
+    let s = c .before .before .before .before .before .before .before .before .before .args in
+    let l = c .before .before .before .before .before .loop in
+    let h = row-offends (now (s .configuration)) (now (s .block)) (s .start) (l .i) (c .before .before .before .run-to .ensures)
+    (c .before .before .row-at .ensures) (c .before .row-offending .ensures) in
+    refused-row (now (s .configuration)) (now (s .block)) (s .start) (s .n) (l .i) (c .before .before .before .before .loop-test .taken) (l .inv .2) h
+    (c .if1 .taken)
 
 are-had-requires : tie.Need-are-had-requires Inv-loop μ-loop
 are-had-requires c κs = search needs
@@ -53,16 +59,44 @@ loop-less : tie.Need-loop-less Inv-loop μ-loop
 loop-less c = omega arith
 
 loop-again : tie.Need-loop-again Inv-loop μ-loop
-loop-again c = let s = c .before .before .before .before .before .before .before .before .before .before .before .args in let x = now (s .configuration) in let b = now (s .block) in let l = c .before .before .before .before .before .before .before .loop in let r = c .before .before .before .before .before .run-to .ensures in let e = c .before .before .before .before .row-at .ensures in let k = row-offends x b (s .start) (l .i) r e (c .before .before .before .row-offending .ensures) in (omega arith, walk-on x (l .i) r, below-next (fails (refusedIn (rowOffending x b (s .start)))) (l .i) (l .inv .2) (ap not (le-ltb (rowOffending x b (s .start) (l .i)) 4 (rw k at (c .before .before .if1 .left)))), and-next (rowHad x b (s .start)) (l .i) (l .inv .3) (row-had x b (s .start) (l .i) r e (c .before .are-had .ensures)), and-next (rowOrdered x b (s .start)) (l .i) (l .inv .4) (row-ordered x b (s .start) (l .i) r e (c .are-ordered .ensures)))
+loop-again c =
+    let s = c .before .before .before .before .before .before .before .before .before .before .before .args in
+    let x = now (s .configuration) in
+    let b = now (s .block) in
+    let l = c .before .before .before .before .before .before .before .loop in
+    let r = c .before .before .before .before .before .run-to .ensures in
+    let e = c .before .before .before .before .row-at .ensures in
+    let k = row-offends x b (s .start) (l .i) r e (c .before .before .before .row-offending .ensures) in (
+      omega arith,
+      walk-on x (l .i) r,
+      below-next (fails (refusedIn (rowOffending x b (s .start)))) (l .i) (l .inv .2) (ap not (le-ltb (rowOffending x b (s .start) (l .i)) 4 (rw k at (c .before .before .if1 .left)))),
+      and-next (rowHad x b (s .start)) (l .i) (l .inv .3) (row-had x b (s .start) (l .i) r e (c .before .are-had .ensures)),
+      and-next (rowOrdered x b (s .start)) (l .i) (l .inv .4) (row-ordered x b (s .start) (l .i) r e (c .are-ordered .ensures)),
+    )
 
 returns-2 : tie.Need-returns-2 Inv-loop μ-loop
-returns-2 c = let s = c .before .before .before .before .before .before .args in let l = c .before .before .loop in let e : l .i ≡ s .n = omega arith in not-had (now (s .configuration)) (now (s .block)) (s .start) (s .n) (rw e at (l .inv .2)) (rw e at (l .inv .3)) (rw e at (l .inv .4)) (not-true _ (c .if2 .taken))
+returns-2 c =
+    let s = c .before .before .before .before .before .before .args in
+    let l = c .before .before .loop in
+    let e : l .i ≡ s .n = omega arith in
+    not-had (now (s .configuration)) (now (s .block)) (s .start) (s .n) (rw e at (l .inv .2)) (rw e at (l .inv .3)) (rw e at (l .inv .4))
+    (not-true _ (c .if2 .taken))
 
 returns-3 : tie.Need-returns-3 Inv-loop μ-loop
-returns-3 c = let s = c .before .before .before .before .before .before .before .args in let l = c .before .before .before .loop in let e : l .i ≡ s .n = omega arith in not-ordered (now (s .configuration)) (now (s .block)) (s .start) (s .n) (rw e at (l .inv .2)) (rw e at (l .inv .3)) (rw e at (l .inv .4)) (not-false _ (c .before .if2 .left)) (not-true _ (c .if3 .taken))
+returns-3 c =
+    let s = c .before .before .before .before .before .before .before .args in
+    let l = c .before .before .before .loop in
+    let e : l .i ≡ s .n = omega arith in
+    not-ordered (now (s .configuration)) (now (s .block)) (s .start) (s .n) (rw e at (l .inv .2)) (rw e at (l .inv .3)) (rw e at (l .inv .4))
+    (not-false _ (c .before .if2 .left)) (not-true _ (c .if3 .taken))
 
 returns-4 : tie.Need-returns-4 Inv-loop μ-loop
-returns-4 c = let s = c .before .before .before .before .before .before .before .args in let l = c .before .before .before .loop in let e : l .i ≡ s .n = omega arith in rows-passed (now (s .configuration)) (now (s .block)) (s .start) (s .n) (rw e at (l .inv .2)) (rw e at (l .inv .3)) (rw e at (l .inv .4)) (not-false _ (c .before .if2 .left)) (not-false _ (c .if3 .left))
+returns-4 c =
+    let s = c .before .before .before .before .before .before .before .args in
+    let l = c .before .before .before .loop in
+    let e : l .i ≡ s .n = omega arith in
+    rows-passed (now (s .configuration)) (now (s .block)) (s .start) (s .n) (rw e at (l .inv .2)) (rw e at (l .inv .3)) (rw e at (l .inv .4))
+    (not-false _ (c .before .if2 .left)) (not-false _ (c .if3 .left))
 
 pub test-spec : {M : Type 1} → statement M
 test-spec =

@@ -69,7 +69,13 @@ add-result : tie.Need-add-result Inv-loop μ-loop
 add-result c = omega (arith, c .header-place .ensures, c .before .if1 .taken)
 
 returns : tie.Need-returns Inv-loop μ-loop
-returns c = let s = c .before .before .before .before .before .before .before .before in let l = c .before .before .before .before .before .before .loop in header-refused (now (s .args .page)) (l .t) (let m : l .t < s .args .n = c .before .before .before .before .before .loop-test .taken in omega arith) (c .before .before .before .before .header-on .ensures) (l .inv .2) (c .before .before .before .is-served .ensures) (c .before .before .first-of .ensures) (l .inv .3) (c .before .if1 .taken) (c .header-place .ensures) (s .pre .0)
+returns c =
+    let s = c .before .before .before .before .before .before .before .before in
+    let l = c .before .before .before .before .before .before .loop in
+    header-refused (now (s .args .page)) (l .t)
+    (let m : l .t < s .args .n = c .before .before .before .before .before .loop-test .taken in omega arith)
+    (c .before .before .before .before .header-on .ensures) (l .inv .2) (c .before .before .before .is-served .ensures)
+    (c .before .before .first-of .ensures) (l .inv .3) (c .before .if1 .taken) (c .header-place .ensures) (s .pre .0)
 
 add-t : tie.Need-add-t Inv-loop μ-loop
 add-t c = let m = c .before .before .before .before .loop-test .taken in let f = c .before .before .before .before .before .before .before .fits .n in omega arith
@@ -78,13 +84,25 @@ loop-less : tie.Need-loop-less Inv-loop μ-loop
 loop-less c = let m = c .before .before .before .before .loop-test .taken in omega arith
 
 loop-again : tie.Need-loop-again Inv-loop μ-loop
-loop-again c = let s = c .before .before .before .before .before .before .before in let l = c .before .before .before .before .before .loop in let m = c .before .before .before .before .loop-test .taken in let n = header-passed (now (s .args .page)) (l .t) (let m : l .t < s .args .n = c .before .before .before .before .loop-test .taken in omega arith) (c .before .before .before .header-on .ensures) (l .inv .2) (c .before .before .is-served .ensures) (c .before .first-of .ensures) (l .inv .3) (c .if1 .left) in (omega arith, n .0, n .1, n .2)
+loop-again c =
+    let s = c .before .before .before .before .before .before .before in
+    let l = c .before .before .before .before .before .loop in
+    let m = c .before .before .before .before .loop-test .taken in
+    let n = header-passed (now (s .args .page)) (l .t)
+    (let m : l .t < s .args .n = c .before .before .before .before .loop-test .taken in omega arith) (c .before .before .before .header-on .ensures)
+    (l .inv .2) (c .before .before .is-served .ensures) (c .before .first-of .ensures) (l .inv .3) (c .if1 .left) in
+    (omega arith, n .0, n .1, n .2)
 
 header-place-requires-2 : tie.Need-header-place-requires-2 Inv-loop μ-loop
 header-place-requires-2 c κs = search needs
 
 returns-2 : tie.Need-returns-2 Inv-loop μ-loop
-returns-2 c = let s = c .before .before .before .before in let l = c .before .before .loop in let m = c .before .loop-test .left in let e : l .t ≡ s .args .n = omega arith in c .header-place2 .ensures ∙ found-none (now (s .args .page)) (rw e at (l .inv .3))
+returns-2 c =
+    let s = c .before .before .before .before in
+    let l = c .before .before .loop in
+    let m = c .before .loop-test .left in
+    let e : l .t ≡ s .args .n = omega arith in
+    c .header-place2 .ensures ∙ found-none (now (s .args .page)) (rw e at (l .inv .3))
 
 pub headers-offence-spec : {M : Type 1} → statement M
 headers-offence-spec =

@@ -17,7 +17,11 @@ cast-bytes : tie.Need-cast-bytes
 cast-bytes c = search needs
 
 text-told-requires : tie.Need-text-told-requires
-text-told-requires c κs = let s = c .before .before .before in let p = now (s .args .page) in let n = head-length p (s .args .t) (c .head-told .ensures) in (rw (n, s .pre .1 .1 .0) (told-in p (s .pre .0) (s .args .t) (s .pre .1 .0)), rw n (told-short p (s .pre .0) (s .args .t)))
+text-told-requires c κs =
+    let s = c .before .before .before in
+    let p = now (s .args .page) in
+    let n = head-length p (s .args .t) (c .head-told .ensures) in
+    (rw (n, s .pre .1 .1 .0) (told-in p (s .pre .0) (s .args .t) (s .pre .1 .0)), rw n (told-short p (s .pre .0) (s .args .t)))
 
 type-place-requires : tie.Need-type-place-requires
 type-place-requires c κs = search needs
@@ -41,7 +45,18 @@ same-length : tie.Need-same-length
 same-length c = search needs
 
 returns : tie.Need-returns
-returns c = let s = c .before .before .before .before .before .before .before .before .before .before .before .before .before .before .before in let p = now (s .args .page) in let h = c .before .before .before .before .before .before .before .before .before .before .before .before .head-told .ensures in let n = head-length p (s .args .t) h in (n, type-done p (s .args .t) (now (s .args .configuration)) h (text-done p (s .pre .0) (s .args .t) (s .pre .1 .1 .0) n (c .before .before .before .before .before .before .before .before .before .before .before .text-told .ensures)) (c .before .before .before .before .before .before .before .before .before .type-place .ensures) (c .before .before .before .before .before .before .before .before .put-four .ensures) (c .before .before .before .text-place .ensures) (c .before .before .copy .ensures))
+returns c =
+    let s = c .before .before .before .before .before .before .before .before .before .before .before .before .before .before .before in
+    let p = now (s .args .page) in
+    let h = c .before .before .before .before .before .before .before .before .before .before .before .before .head-told .ensures in
+    let n = head-length p (s .args .t) h in
+    let x = c .before .before .before .before .before .before .before .before .before .before .before .text-told .ensures in
+    let t = text-done p (s .pre .0) (s .args .t) (s .pre .1 .1 .0) n x in
+    let o = type-done p (s .args .t) (now (s .args .configuration)) h t
+    (c .before .before .before .before .before .before .before .before .before .type-place .ensures)
+    (c .before .before .before .before .before .before .before .before .put-four .ensures)
+    (c .before .before .before .text-place .ensures) (c .before .before .copy .ensures) in
+    (n, o)
 
 pub put-type-spec : {M : Type 1} → statement M
 put-type-spec =

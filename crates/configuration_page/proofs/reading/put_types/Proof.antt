@@ -29,10 +29,18 @@ loop-holds : tie.Need-loop-holds Inv-loop μ-loop
 loop-holds c = (omega arith, refl, c .header-place .ensures ∙ rw (c .before .types-on .ensures) (sym (start-first _)), refl)
 
 put-type-requires : tie.Need-put-type-requires Inv-loop μ-loop
-put-type-requires c κs = let s = c .before .before .before .before .before .before .before in let l = c .before .before .loop in (s .pre .0, (c .before .loop-test .taken, (l .inv .2, omega (arith, s .pre .1))))
+put-type-requires c κs =
+    let s = c .before .before .before .before .before .before .before in
+    let l = c .before .before .loop in
+    (s .pre .0, (c .before .loop-test .taken, (l .inv .2, omega (arith, s .pre .1))))
 
 add-start : tie.Need-add-start Inv-loop μ-loop
-add-start c = let s = c .before .before .before .before .before .before .before .before .before .before in let l = c .before .before .before .before .before .loop in let p = now (s .args .page) in omega (arith, c .before .before .before .before .loop-test .taken, start-on p (l .t) (l .inv .2) (c .before .before .put-type .ensures .0), start-small p (s .pre .0) (l .t + 1))
+add-start c =
+    let s = c .before .before .before .before .before .before .before .before .before .before in
+    let l = c .before .before .before .before .before .loop in
+    let p = now (s .args .page) in
+    omega
+    (arith, c .before .before .before .before .loop-test .taken, start-on p (l .t) (l .inv .2) (c .before .before .put-type .ensures .0), start-small p (s .pre .0) (l .t + 1))
 
 add-t : tie.Need-add-t Inv-loop μ-loop
 add-t c = search needs
@@ -41,7 +49,15 @@ loop-less : tie.Need-loop-less Inv-loop μ-loop
 loop-less c = search needs
 
 loop-again : tie.Need-loop-again Inv-loop μ-loop
-loop-again c = let s = c .before .before .before .before .before .before .before .before .before .before .args in let l = c .before .before .before .before .before .loop in let n = types-next (now (s .page)) (now (s .configuration)) (l .t) (l .inv .1) (l .inv .3) (c .before .before .put-type .ensures .1) in (omega (arith, c .before .before .before .before .loop-test .taken), n .0, start-on (now (s .page)) (l .t) (l .inv .2) (c .before .before .put-type .ensures .0), n .1)
+loop-again c =
+    let s = c .before .before .before .before .before .before .before .before .before .before .args in
+    let l = c .before .before .before .before .before .loop in
+    let n = types-next (now (s .page)) (now (s .configuration)) (l .t) (l .inv .1) (l .inv .3) (c .before .before .put-type .ensures .1) in (
+      omega (arith, c .before .before .before .before .loop-test .taken),
+      n .0,
+      start-on (now (s .page)) (l .t) (l .inv .2) (c .before .before .put-type .ensures .0),
+      n .1,
+    )
 
 same-length : tie.Need-same-length Inv-loop μ-loop
 same-length c = search needs

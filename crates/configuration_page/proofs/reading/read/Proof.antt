@@ -1,8 +1,10 @@
 -- `configuration_page::reading::read` meets its contract. Assumes nothing.
-use mathlib.Core.Path.{sym, _∙_}
-use native.Mathlib.Omega.{arith}
+use Rattle.configuration_page.specs.Configuration.{configurationOf}
+use Rattle.configuration_page.specs.Read.{configurationRead}
+use Rattle.refusals.proofs.Left.{read-handed}
 use denote.Ref.{now}
-use Rattle.configuration_page.proofs.Refusals.{told}
+use native.Mathlib.Omega.{arith}
+use mathlib.Core.Path.{sym, _∙_}
 use borrow.Author.Needs.{needs}
 use Rattle.configuration_page.proofs.reading.read.Statement.{statement}
 use Rattle.configuration_page.proofs.reading.read.Tie as tie
@@ -19,11 +21,16 @@ enum-told-2 c = search needs
 returns : tie.Need-returns
 returns c = search needs
 
-put-requires : tie.Need-put-requires
-put-requires c κs = let s = c .before .before .before .before .before in (sym (c .before .before .before .test .ensures) ∙ c .before .enum-told .given .1, omega arith)
+hand-over-requires : tie.Need-hand-over-requires
+hand-over-requires c κs = (sym (c .before .before .before .test .ensures) ∙ c .before .enum-told .given .1, omega arith)
 
 returns-2 : tie.Need-returns-2
-returns-2 c = let s = c .before .before .before .before .before .before .args in told (now (s .page)) (now (s .configuration)) (omega arith) (sym (c .before .before .enum-told .given .1) ∙ c .before .before .before .before .test .ensures) (c .put .ensures)
+returns-2 c =
+    let s = c .before .before .before .before .before .before .args in
+    let p = now (s .page) in
+    read-handed (configurationRead p) (configurationOf p) (now (s .configuration)) (c .before .before .before .before .test .ensures)
+    (c .before .before .enum-told .given .1) (c .hand-over .ensures)
 
 pub read-spec : {M : Type 1} → statement M
-read-spec = tie.close (tie.spec test-requires enum-told enum-told-2 returns put-requires returns-2)
+read-spec =
+    tie.close (tie.spec test-requires enum-told enum-told-2 returns hand-over-requires returns-2)

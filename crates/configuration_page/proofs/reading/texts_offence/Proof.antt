@@ -29,7 +29,11 @@ text-offends-requires : tie.Need-text-offends-requires Inv-loop μ-loop
 text-offends-requires c κs = search needs
 
 returns : tie.Need-returns Inv-loop μ-loop
-returns c = let s = c .before .before .before .before .before .before in let l = c .before .before .before .before .loop in found-at (now (s .args .page)) (c .before .before .before .loop-test .taken) (l .inv .2) (text-at (now (s .args .page)) (l .k) (omega arith) ∙ ap textOffends (sym (c .before .before .byte-at .ensures)) ∙ sym (c .before .text-offends .ensures) ∙ c .if1 .taken)
+returns c =
+    let s = c .before .before .before .before .before .before in
+    let l = c .before .before .before .before .loop in
+    found-at (now (s .args .page)) (c .before .before .before .loop-test .taken) (l .inv .2)
+    (text-at (now (s .args .page)) (l .k) (omega arith) ∙ ap textOffends (sym (c .before .before .byte-at .ensures)) ∙ sym (c .before .text-offends .ensures) ∙ c .if1 .taken)
 
 add-k : tie.Need-add-k Inv-loop μ-loop
 add-k c = search needs
@@ -38,7 +42,14 @@ loop-less : tie.Need-loop-less Inv-loop μ-loop
 loop-less c = search needs
 
 loop-again : tie.Need-loop-again Inv-loop μ-loop
-loop-again c = let s = c .before .before .before .before .before .before in let l = c .before .before .before .before .loop in let m = c .before .before .before .loop-test .taken in (omega arith, omega arith, below-next (fails (offends (now (s .args .page)))) (l .k) (l .inv .2) (ap not (text-at (now (s .args .page)) (l .k) (omega arith) ∙ ap textOffends (sym (c .before .before .byte-at .ensures)) ∙ sym (c .before .text-offends .ensures) ∙ c .if1 .left)))
+loop-again c =
+    let s = c .before .before .before .before .before .before in
+    let l = c .before .before .before .before .loop in
+    let m = c .before .before .before .loop-test .taken in (
+      omega arith,
+      omega arith,
+      below-next (fails (offends (now (s .args .page)))) (l .k) (l .inv .2) (ap not (text-at (now (s .args .page)) (l .k) (omega arith) ∙ ap textOffends (sym (c .before .before .byte-at .ensures)) ∙ sym (c .before .text-offends .ensures) ∙ c .if1 .left)),
+    )
 
 returns-2 : tie.Need-returns-2 Inv-loop μ-loop
 returns-2 c = let s = c .before .before .before in let l = c .before .loop in let e : l .k ≡ s .args .n = omega arith in e ∙ found-none (now (s .args .page)) (rw e at (l .inv .2))

@@ -36,7 +36,15 @@ same-length : tie.Need-same-length
 same-length c = search needs
 
 returns : tie.Need-returns
-returns c = let s = c .before .before .before .before .before .before .before .before .before .before .before .before .before .before .before .before .before .before .before .before .args in fixed-done (now (s .front)) (s .n) (now (s .out)) (c .before .before .before .before .before .before .before .before .before .before .before .before .before .before .before .before .before .byte-at .ensures) (c .before .before .before .before .before .before .before .before .before .before .before .before .before .before .before .put-four .ensures) (c .before .before .before .before .before .before .before .before .before .before .before .four-at .ensures) (c .before .before .before .before .before .before .before .before .before .before .put-four2 .ensures) (c .before .before .before .before .before .before .put-four3 .ensures) (c .before .before .copy .ensures)
+returns c =
+    let s = c .before .before .before .before .before .before .before .before .before .before .before .before .before .before .before .before .before
+    .before .before .before .args in
+    fixed-done (now (s .front)) (s .n) (now (s .out))
+    (c .before .before .before .before .before .before .before .before .before .before .before .before .before .before .before .before .before .byte-at .ensures)
+    (c .before .before .before .before .before .before .before .before .before .before .before .before .before .before .before .put-four .ensures)
+    (c .before .before .before .before .before .before .before .before .before .before .before .four-at .ensures)
+    (c .before .before .before .before .before .before .before .before .before .before .put-four2 .ensures)
+    (c .before .before .before .before .before .before .put-four3 .ensures) (c .before .before .copy .ensures)
 
 pub put-fixed-spec : {M : Type 1} → statement M
 put-fixed-spec =

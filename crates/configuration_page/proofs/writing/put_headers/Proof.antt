@@ -41,7 +41,14 @@ loop-less : tie.Need-loop-less Inv-loop μ-loop
 loop-less c = omega arith
 
 loop-again : tie.Need-loop-again Inv-loop μ-loop
-loop-again c = let s = c .before .before .before .before .before .before .before .before .before .before .before .before .args in let l = c .before .before .before .before .before .before .before .before .before .loop in let n = headers-next (now (s .front)) (now (s .out)) (l .t) (l .inv .1) (l .inv .2) (c .before .before .before .before .before .before .before .code-of .ensures) (c .before .before .before .before .before .before .elements-of .ensures) (c .before .before .before .before .before .text-length .ensures) (c .before .before .before .header-place .ensures) (c .before .before .put-four .ensures) in (omega arith, n .0, n .1)
+loop-again c =
+    let s = c .before .before .before .before .before .before .before .before .before .before .before .before .args in
+    let l = c .before .before .before .before .before .before .before .before .before .loop in
+    let n = headers-next (now (s .front)) (now (s .out)) (l .t) (l .inv .1) (l .inv .2)
+    (c .before .before .before .before .before .before .before .code-of .ensures)
+    (c .before .before .before .before .before .before .elements-of .ensures) (c .before .before .before .before .before .text-length .ensures)
+    (c .before .before .before .header-place .ensures) (c .before .before .put-four .ensures) in
+    (omega arith, n .0, n .1)
 
 same-length : tie.Need-same-length Inv-loop μ-loop
 same-length c = search needs

@@ -34,10 +34,23 @@ text-place-requires : tie.Need-text-place-requires Inv-loop μ-loop
 text-place-requires c κs = search needs
 
 copy-requires : tie.Need-copy-requires Inv-loop μ-loop
-copy-requires c κs = let s = c .before .before .before .before .before .before .before .before in let f = now (s .args .front) in let t = c .before .before .before .before .loop .t in let l : t < s .args .n = c .before .before .before .loop-test .taken in (omega (arith, c .before .text-place .ensures, c .before .before .text-length .ensures, text-there f (s .pre .0 .0) t (omega arith)), omega (arith, c .before .before .before .before .loop .inv .2, c .before .before .text-length .ensures, text-in f t (omega arith)))
+copy-requires c κs =
+    let s = c .before .before .before .before .before .before .before .before in
+    let f = now (s .args .front) in
+    let t = c .before .before .before .before .loop .t in
+    let l : t < s .args .n = c .before .before .before .loop-test .taken in (
+      omega (arith, c .before .text-place .ensures, c .before .before .text-length .ensures, text-there f (s .pre .0 .0) t (omega arith)),
+      omega (arith, c .before .before .before .before .loop .inv .2, c .before .before .text-length .ensures, text-in f t (omega arith)),
+    )
 
 add-at : tie.Need-add-at Inv-loop μ-loop
-add-at c = let s = c .before .before .before .before .before .before .before .before .before .before .before in let f = now (s .args .front) in let t = c .before .before .before .before .before .before .before .loop .t in let l = c .before .before .before .before .before .before .loop-test .taken in omega (arith, short f (s .pre .0 .0), c .before .before .before .before .before .before .before .loop .inv .2, c .before .before .before .before .before .text-length .ensures, text-in f t (omega arith))
+add-at c =
+    let s = c .before .before .before .before .before .before .before .before .before .before .before in
+    let f = now (s .args .front) in
+    let t = c .before .before .before .before .before .before .before .loop .t in
+    let l = c .before .before .before .before .before .before .loop-test .taken in
+    omega
+    (arith, short f (s .pre .0 .0), c .before .before .before .before .before .before .before .loop .inv .2, c .before .before .before .before .before .text-length .ensures, text-in f t (omega arith))
 
 add-t : tie.Need-add-t Inv-loop μ-loop
 add-t c = search needs
@@ -46,7 +59,13 @@ loop-less : tie.Need-loop-less Inv-loop μ-loop
 loop-less c = search needs
 
 loop-again : tie.Need-loop-again Inv-loop μ-loop
-loop-again c = let s = c .before .before .before .before .before .before .before .before .before .before .before .args in let l = c .before .before .before .before .before .before .before .loop in let n = texts-next (now (s .front)) (now (s .out)) (l .t) (l .inv .1) (l .inv .2) (l .inv .3) (c .before .before .before .before .before .text-length .ensures) (c .before .before .before .before .text-place .ensures) (c .before .before .copy .ensures) in (omega arith, n .0, n .1, n .2)
+loop-again c =
+    let s = c .before .before .before .before .before .before .before .before .before .before .before .args in
+    let l = c .before .before .before .before .before .before .before .loop in
+    let n = texts-next (now (s .front)) (now (s .out)) (l .t) (l .inv .1) (l .inv .2) (l .inv .3)
+    (c .before .before .before .before .before .text-length .ensures) (c .before .before .before .before .text-place .ensures)
+    (c .before .before .copy .ensures) in
+    (omega arith, n .0, n .1, n .2)
 
 same-length : tie.Need-same-length Inv-loop μ-loop
 same-length c = search needs

@@ -1,8 +1,10 @@
 -- `configuration_page::writing::write` meets its contract. Assumes nothing.
+use Rattle.configuration_page.proofs.RowsPut.{length-page}
+use Rattle.configuration_page.specs.Page.{configurationPage}
+use Rattle.refusals.proofs.Left.{write-room, write-short, write-put}
+use Rattle.refusals.specs.declared.Answer.the-variants.{Accepted}
 use denote.Ref.{now}
-use native.Mathlib.Omega.{arith}
-use Rattle.shelf_formed.proofs.FormedShelf.{few-types}
-use Rattle.configuration_page.proofs.RowsPut.{has-room, has-headers, wrote, not-wrote, not-empty}
+use mathlib.Core.Path.{refl, sym, _∙_}
 use borrow.Author.Needs.{needs}
 use Rattle.configuration_page.proofs.writing.write.Statement.{statement}
 use Rattle.configuration_page.proofs.writing.write.Tie as tie
@@ -20,28 +22,31 @@ enum-told-2 : tie.Need-enum-told-2
 enum-told-2 c = search needs
 
 returns : tie.Need-returns
-returns c = let s = c .before .before .before .before .before .before .args in not-wrote (now (s .front)) (now (s .out)) (c .before .before .before .length .ensures) (c .before .before .fit .ensures) (c .enum-told2 .given .1)
+returns c =
+    let s = c .before .before .before .before .before .before .args in
+    let f = now (s .front) in
+    let l = c .before .before .before .length .ensures ∙ sym (length-page f) in
+    write-short Accepted (configurationPage f) (now (s .out)) refl refl l (c .before .before .fit .ensures) (c .enum-told2 .given .1)
 
-count-requires : tie.Need-count-requires
-count-requires c κs = search needs
-
-sub-put-fixed : tie.Need-sub-put-fixed
-sub-put-fixed c = not-empty (now (c .before .before .before .before .before .before .before .args .front)) (c .before .before .before .before .length .ensures)
-
-put-fixed-requires : tie.Need-put-fixed-requires
-put-fixed-requires c κs = let s = c .before .before .before .before .before .before .before .before in let h = has-headers (now (s .args .front)) (now (s .args .out)) (c .before .before .before .before .before .length .ensures) (c .before .before .before .before .fit .ensures) (c .before .before .enum-told .given .1) in (s .pre .1, omega (arith, h))
-
-put-headers-requires : tie.Need-put-headers-requires
-put-headers-requires c κs = let s = c .before .before .before .before .before .before .before .before .before .before .before .before in let f = now (s .args .front) in let n = c .before .before .before .before .before .count .ensures in let h = has-headers f (now (s .args .out)) (c .before .before .before .before .before .before .before .before .before .length .ensures) (c .before .before .before .before .before .before .before .before .fit .ensures) (c .before .before .before .before .before .before .enum-told .given .1) in (s .pre .1, (omega (arith, n, few-types f (s .pre .0)), omega (arith, n, h)))
-
-put-texts-requires : tie.Need-put-texts-requires
-put-texts-requires c κs = let s = c .before .before .before .before .before .before .before .before .before .before .before .before .before .before .before .before in let f = now (s .args .front) in let h = has-room f (now (s .args .out)) (c .before .before .before .before .before .before .before .before .before .before .before .before .before .length .ensures) (c .before .before .before .before .before .before .before .before .before .before .before .before .fit .ensures) (c .before .before .before .before .before .before .before .before .before .before .enum-told .given .1) in (s .pre, (c .before .before .before .before .before .before .before .before .before .count .ensures, omega (arith, h)))
+put-requires : tie.Need-put-requires
+put-requires c κs =
+    let s = c .before .before .before .before .before .before .before .args in
+    let f = now (s .front) in
+    let l = c .before .before .before .before .length .ensures ∙ sym (length-page f) in (
+      c .before .before .before .before .before .before .before .pre,
+      (c .before .before .before .before .length .ensures, write-room Accepted (configurationPage f) (now (s .out)) refl refl l (c .before .before .before .fit .ensures) (c .before .enum-told .given .1)),
+    )
 
 same-length : tie.Need-same-length
 same-length c = search needs
 
 returns-2 : tie.Need-returns-2
-returns-2 c = let s = c .before .before .before .before .before .before .before .before .before .before .before .before .before .before .before .before .before .before .before .args in wrote (now (s .front)) (now (s .out)) (c .before .before .before .before .before .before .before .before .before .before .before .before .before .before .before .before .length .ensures) (c .before .before .before .before .before .before .before .before .before .before .before .before .before .before .before .fit .ensures) (c .before .before .before .before .before .before .before .before .before .before .before .before .before .enum-told .given .1) (c .before .before .before .before .before .before .before .before .before .before .before .before .count .ensures) (c .before .before .before .before .before .before .before .before .before .before .put-fixed .ensures) (c .before .before .before .before .before .before .put-headers .ensures) (c .before .before .put-texts .ensures)
+returns-2 c =
+    let s = c .before .before .before .before .before .before .before .before .before .before .args in
+    let f = now (s .front) in
+    let l = c .before .before .before .before .before .before .before .length .ensures ∙ sym (length-page f) in
+    write-put Accepted (configurationPage f) (now (s .out)) refl refl l (c .before .before .before .before .before .before .fit .ensures)
+    (c .before .before .before .before .enum-told .given .1) (c .before .before .put .ensures)
 
 pub write-spec : {M : Type 1} → statement M
 write-spec =
@@ -52,10 +57,6 @@ write-spec =
     enum-told
     enum-told-2
     returns
-    count-requires
-    sub-put-fixed
-    put-fixed-requires
-    put-headers-requires
-    put-texts-requires
+    put-requires
     same-length
     returns-2)

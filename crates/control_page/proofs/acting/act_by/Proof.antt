@@ -27,7 +27,14 @@ same-length : tie.Need-same-length
 same-length c = search needs
 
 returns : tie.Need-returns
-returns c = let q = c .before .before .before .before .before .before .before .before .before .before .before in let s = q .args in acted-by (now (s .shelf)) (s .j) (s .kind) (s .e) (q .pre .1) (c .before .before .before .before .before .before .before .before .before .of .ensures) (c .before .before .before .before .before .before .before .settings-at .ensures) (c .before .before .before .before .before .before .of2 .ensures) (c .before .before .before .before .before .act .ensures) (c .before .before .before .bytes .ensures) (c .before .before .put-settings .ensures)
+returns c =
+    let q = c .before .before .before .before .before .before .before .before .before .before .before in
+    let s = q .args in
+    acted-by (now (s .shelf)) (s .j) (s .kind) (s .e) (q .pre .1)
+    (c .before .before .before .before .before .before .before .before .before .of .ensures)
+    (c .before .before .before .before .before .before .before .settings-at .ensures)
+    (c .before .before .before .before .before .before .of2 .ensures) (c .before .before .before .before .before .act .ensures)
+    (c .before .before .before .bytes .ensures) (c .before .before .put-settings .ensures)
 
 pub act-by-spec : {M : Type 1} → statement M
 act-by-spec =

@@ -19,7 +19,12 @@ same-length : tie.Need-same-length
 same-length c = search needs
 
 returns : tie.Need-returns
-returns c = let q = c .before .before .before .before .before .before .before .before .before in let s = q .args in by-own (now (s .shelf)) (s .j) (now (s .page)) (q .pre .1 .1) (c .before .before .before .before .before .before .four-at .ensures) (sym (c .before .before .before .before .before .is-selected .ensures) ∙ c .before .before .before .before .if1 .taken) (c .before .before .act-by .ensures)
+returns c =
+    let q = c .before .before .before .before .before .before .before .before .before in
+    let s = q .args in
+    by-own (now (s .shelf)) (s .j) (now (s .page)) (q .pre .1 .1) (c .before .before .before .before .before .before .four-at .ensures)
+    (sym (c .before .before .before .before .before .is-selected .ensures) ∙ c .before .before .before .before .if1 .taken)
+    (c .before .before .act-by .ensures)
 
 four-at-requires-2 : tie.Need-four-at-requires-2
 four-at-requires-2 c κs = search needs
@@ -34,10 +39,22 @@ same-length-2 : tie.Need-same-length-2
 same-length-2 c = search needs
 
 returns-2 : tie.Need-returns-2
-returns-2 c = let q = c .before .before .before .before .before .before .before .before .before .before .before .before in let s = q .args in by-overall (now (s .shelf)) (s .j) (now (s .page)) (q .pre .1 .1) (c .before .before .before .before .before .before .before .before .before .four-at .ensures) (c .before .before .before .before .before .before .four-at2 .ensures) (sym (c .before .before .before .before .before .before .before .before .is-selected .ensures) ∙ c .before .before .before .before .before .before .before .if1 .left) (c .before .before .act-by2 .ensures)
+returns-2 c =
+    let q = c .before .before .before .before .before .before .before .before .before .before .before .before in
+    let s = q .args in
+    by-overall (now (s .shelf)) (s .j) (now (s .page)) (q .pre .1 .1)
+    (c .before .before .before .before .before .before .before .before .before .four-at .ensures)
+    (c .before .before .before .before .before .before .four-at2 .ensures)
+    (sym (c .before .before .before .before .before .before .before .before .is-selected .ensures) ∙ c .before .before .before .before .before .before .before .if1 .left)
+    (c .before .before .act-by2 .ensures)
 
 returns-3 : tie.Need-returns-3
-returns-3 c = let q = c .before .before .before .before .before .before .before .before in let s = q .args in by-none (now (s .shelf)) (s .j) (now (s .page)) (q .pre .1 .1) (c .before .before .before .before .before .four-at .ensures) (c .before .before .four-at2 .ensures) (sym (c .before .before .before .before .is-selected .ensures) ∙ c .before .before .before .if1 .left) (sym (c .before .is-selected2 .ensures) ∙ c .if2 .left)
+returns-3 c =
+    let q = c .before .before .before .before .before .before .before .before in
+    let s = q .args in
+    by-none (now (s .shelf)) (s .j) (now (s .page)) (q .pre .1 .1) (c .before .before .before .before .before .four-at .ensures)
+    (c .before .before .four-at2 .ensures) (sym (c .before .before .before .before .is-selected .ensures) ∙ c .before .before .before .if1 .left)
+    (sym (c .before .is-selected2 .ensures) ∙ c .if2 .left)
 
 pub act-on-spec : {M : Type 1} → statement M
 act-on-spec =

@@ -54,7 +54,15 @@ add-result : tie.Need-add-result Inv-loop μ-loop
 add-result c = omega (arith, c .slot-place .ensures)
 
 returns-2 : tie.Need-returns-2 Inv-loop μ-loop
-returns-2 c = let s = c .before .before .before .before .before .before .before .before .before .before .before .args in let h : Fits w8 (c .before .before .before .before .before .before .before .before .byte-at .result) = search needs in let l = c .before .before .before .before .before .loop in slot-refused (now (s .shelf)) (now (s .page)) (s .n) (ap (only (3 ∷ 2 ∷ 1 ∷ 0 ∷ [])) (sym (c .before .before .before .before .before .before .before .before .byte-at .ensures)) ∙ sym (mask 0xf0 (3 ∷ 2 ∷ 1 ∷ 0 ∷ []) refl (c .before .before .before .before .before .before .before .before .byte-at .result) h) ∙ eq-eqb _ 0 (c .before .before .before .before .before .before .before .if1 .left)) (l .i) (c .before .before .before .before .loop-test .taken) (l .inv .2) (slot-offends (now (s .shelf)) (now (s .page)) (l .i) (c .before .before .before .run-to .ensures) (c .before .before .slot-offending .ensures)) (c .before .if2 .taken) (c .slot-place .ensures)
+returns-2 c =
+    let s = c .before .before .before .before .before .before .before .before .before .before .before .args in
+    let h : Fits w8 (c .before .before .before .before .before .before .before .before .byte-at .result) = search needs in
+    let l = c .before .before .before .before .before .loop in
+    slot-refused (now (s .shelf)) (now (s .page)) (s .n)
+    (ap (only (3 ∷ 2 ∷ 1 ∷ 0 ∷ [])) (sym (c .before .before .before .before .before .before .before .before .byte-at .ensures)) ∙ sym (mask 0xf0 (3 ∷ 2 ∷ 1 ∷ 0 ∷ []) refl (c .before .before .before .before .before .before .before .before .byte-at .result) h) ∙ eq-eqb _ 0 (c .before .before .before .before .before .before .before .if1 .left))
+    (l .i) (c .before .before .before .before .loop-test .taken) (l .inv .2)
+    (slot-offends (now (s .shelf)) (now (s .page)) (l .i) (c .before .before .before .run-to .ensures) (c .before .before .slot-offending .ensures))
+    (c .before .if2 .taken) (c .slot-place .ensures)
 
 add-i : tie.Need-add-i Inv-loop μ-loop
 add-i c = omega arith
@@ -63,13 +71,28 @@ loop-less : tie.Need-loop-less Inv-loop μ-loop
 loop-less c = omega arith
 
 loop-again : tie.Need-loop-again Inv-loop μ-loop
-loop-again c = let s = c .before .before .before .before .before .before .before .before .before .before .args in let l = c .before .before .before .before .loop in let r = c .before .before .run-to .ensures in let k = slot-offends (now (s .shelf)) (now (s .page)) (l .i) r (c .before .slot-offending .ensures) in (omega arith, walk-on (now (s .shelf)) (l .i) r, below-next (fails (refusedIn (slotOffending (now (s .shelf)) (now (s .page))))) (l .i) (l .inv .2) (ap not (le-ltb (slotOffending (now (s .shelf)) (now (s .page)) (l .i)) 4 (rw k at (c .if2 .left)))))
+loop-again c =
+    let s = c .before .before .before .before .before .before .before .before .before .before .args in
+    let l = c .before .before .before .before .loop in
+    let r = c .before .before .run-to .ensures in
+    let k = slot-offends (now (s .shelf)) (now (s .page)) (l .i) r (c .before .slot-offending .ensures) in (
+      omega arith,
+      walk-on (now (s .shelf)) (l .i) r,
+      below-next (fails (refusedIn (slotOffending (now (s .shelf)) (now (s .page))))) (l .i) (l .inv .2) (ap not (le-ltb (slotOffending (now (s .shelf)) (now (s .page)) (l .i)) 4 (rw k at (c .if2 .left)))),
+    )
 
 slot-place-requires-2 : tie.Need-slot-place-requires-2 Inv-loop μ-loop
 slot-place-requires-2 c κs = search needs
 
 returns-3 : tie.Need-returns-3 Inv-loop μ-loop
-returns-3 c = let s = c .before .before .before .before .before .before .before .before .args in let h : Fits w8 (c .before .before .before .before .before .byte-at .result) = search needs in let l = c .before .before .loop in let e : l .i ≡ s .n = omega arith in none-refused (now (s .shelf)) (now (s .page)) (s .n) (ap (only (3 ∷ 2 ∷ 1 ∷ 0 ∷ [])) (sym (c .before .before .before .before .before .byte-at .ensures)) ∙ sym (mask 0xf0 (3 ∷ 2 ∷ 1 ∷ 0 ∷ []) refl (c .before .before .before .before .before .byte-at .result) h) ∙ eq-eqb _ 0 (c .before .before .before .before .if1 .left)) (rw e at (l .inv .2)) (c .slot-place2 .ensures)
+returns-3 c =
+    let s = c .before .before .before .before .before .before .before .before .args in
+    let h : Fits w8 (c .before .before .before .before .before .byte-at .result) = search needs in
+    let l = c .before .before .loop in
+    let e : l .i ≡ s .n = omega arith in
+    none-refused (now (s .shelf)) (now (s .page)) (s .n)
+    (ap (only (3 ∷ 2 ∷ 1 ∷ 0 ∷ [])) (sym (c .before .before .before .before .before .byte-at .ensures)) ∙ sym (mask 0xf0 (3 ∷ 2 ∷ 1 ∷ 0 ∷ []) refl (c .before .before .before .before .before .byte-at .result) h) ∙ eq-eqb _ 0 (c .before .before .before .before .if1 .left))
+    (rw e at (l .inv .2)) (c .slot-place2 .ensures)
 
 pub first-offence-spec : {M : Type 1} → statement M
 first-offence-spec =

@@ -30,7 +30,12 @@ same-length : tie.Need-same-length
 same-length c = search needs
 
 returns : tie.Need-returns
-returns c = let s = c .before .before .before .before .before .before .before .before .before .before .before .before .args in head-is (now (s .configuration)) (now (s .out)) (s .code) (s .own) (s .n) (c .before .before .before .before .before .before .before .before .before .slot-place .ensures) (c .before .before .before .before .before .before .before .put-four .ensures) (c .before .before .before .four-at .ensures) (c .before .before .put-four2 .ensures)
+returns c =
+    let s = c .before .before .before .before .before .before .before .before .before .before .before .before .args in
+    head-is (now (s .configuration)) (now (s .out)) (s .code) (s .own) (s .n)
+    (c .before .before .before .before .before .before .before .before .before .slot-place .ensures)
+    (c .before .before .before .before .before .before .before .put-four .ensures) (c .before .before .before .four-at .ensures)
+    (c .before .before .put-four2 .ensures)
 
 pub put-spec : {M : Type 1} → statement M
 put-spec =

@@ -1,61 +1,70 @@
 -- `page::header::test` meets its contract. Assumes nothing.
-use mathlib.Core.Path.{sym, _∙_}
+use Rattle.page.proofs.HeaderTests.{frame-refused, length-refused, has-header, generation-last}
 use denote.Ref.{now}
-use borrow.Author.Tests.{le-leb, lt-leb, eq-eqb, ne-eqb, not-true, not-false}
-use Rattle.page.proofs.HeaderTests.{too-short, other-code, other-length, other-slots, other-generation, head-passed}
 use borrow.Author.Needs.{needs}
 use Rattle.page.proofs.header.test.Statement.{statement}
 use Rattle.page.proofs.header.test.Tie as tie
 
+test-frame-requires : tie.Need-test-frame-requires
+test-frame-requires c κs = search needs
+
+enum-told : tie.Need-enum-told
+enum-told c = search needs
+
+enum-told-2 : tie.Need-enum-told-2
+enum-told-2 c = search needs
+
 returns : tie.Need-returns
-returns c = let s = c .before .before .before .args in too-short (now (s .configuration)) (now (s .page)) (s .code) (s .n) (lt-leb 4 _ (c .if1 .taken))
-
-byte-at-requires : tie.Need-byte-at-requires
-byte-at-requires c κs = search needs
-
-returns-2 : tie.Need-returns-2
-returns-2 c = let s = c .before .before .before .before .before .args in other-code (now (s .configuration)) (now (s .page)) (s .code) (s .n) (le-leb 4 _ (c .before .before .if1 .left)) (ne-eqb _ (s .code) (λ e. c .if2 .taken (c .before .byte-at .ensures ∙ e)))
-
-says-its-length-requires : tie.Need-says-its-length-requires
-says-its-length-requires c κs = search needs
-
-returns-3 : tie.Need-returns-3
-returns-3 c = let s = c .before .before .before .before .before .before .before .args in other-length (now (s .configuration)) (now (s .page)) (s .code) (s .n) (le-leb 4 _ (c .before .before .before .before .if1 .left)) (eq-eqb _ (s .code) (sym (c .before .before .before .byte-at .ensures) ∙ c .before .before .if2 .left)) (sym (c .before .says-its-length .ensures) ∙ not-true _ (c .if3 .taken))
+returns c =
+    let s = c .before .before .before .before .before .args in
+    frame-refused (now (s .configuration)) (now (s .page)) (s .code) (s .n) (c .before .before .test-frame .ensures) (c .enum-told2 .given .1)
 
 slot-place-requires : tie.Need-slot-place-requires
 slot-place-requires c κs = search needs
 
-cast-if4 : tie.Need-cast-if4
-cast-if4 c = search needs
+test-length-requires : tie.Need-test-length-requires
+test-length-requires c κs = search needs
 
-returns-4 : tie.Need-returns-4
-returns-4 c = let s = c .before .before .before .before .before .before .before .before .before .args in other-slots (now (s .configuration)) (now (s .page)) (s .code) (s .n) (le-leb 4 _ (c .before .before .before .before .before .before .if1 .left)) (eq-eqb _ (s .code) (sym (c .before .before .before .before .before .byte-at .ensures) ∙ c .before .before .before .before .if2 .left)) (sym (c .before .before .before .says-its-length .ensures) ∙ not-false _ (c .before .before .if3 .left)) (ne-eqb _ _ (λ e. c .if4 .taken (e ∙ sym (c .before .slot-place .ensures))))
+enum-told-3 : tie.Need-enum-told-3
+enum-told-3 c = search needs
 
-big32-at-requires : tie.Need-big32-at-requires
-big32-at-requires c κs = search needs
+enum-told-4 : tie.Need-enum-told-4
+enum-told-4 c = search needs
 
-big32-at-requires-2 : tie.Need-big32-at-requires-2
-big32-at-requires-2 c κs = search needs
+returns-2 : tie.Need-returns-2
+returns-2 c =
+    let s = c .before .before .before .before .before .before .before .before .before .args in
+    length-refused (now (s .configuration)) (now (s .page)) (s .code) (s .n) (c .before .before .before .before .before .before .test-frame .ensures)
+    (c .before .before .before .before .enum-told .given .1) (c .before .before .before .slot-place .ensures)
+    (c .before .before .test-length .ensures) (c .enum-told4 .given .1)
 
-returns-5 : tie.Need-returns-5
-returns-5 c = let s = c .before .before .before .before .before .before .before .before .before .before .before .before .args in other-generation (now (s .configuration)) (now (s .page)) (s .code) (s .n) (le-leb 4 _ (c .before .before .before .before .before .before .before .before .before .if1 .left)) (eq-eqb _ (s .code) (sym (c .before .before .before .before .before .before .before .before .byte-at .ensures) ∙ c .before .before .before .before .before .before .before .if2 .left)) (sym (c .before .before .before .before .before .before .says-its-length .ensures) ∙ not-false _ (c .before .before .before .before .before .if3 .left)) (eq-eqb _ _ (c .before .before .before .if4 .left ∙ c .before .before .before .before .slot-place .ensures)) (ne-eqb _ _ (λ e. c .if5 .taken (c .before .before .big32-at .ensures ∙ e ∙ sym (c .before .big32-at2 .ensures))))
+test-generation-requires : tie.Need-test-generation-requires
+test-generation-requires c κs =
+    let s = c .before .before .before .before .before .before .before .before .before .args in (
+      c .before .before .before .before .before .before .before .before .before .pre,
+      has-header (now (s .configuration)) (now (s .page)) (s .code) (s .n) (c .before .before .before .before .before .before .test-frame .ensures) (c .before .before .before .before .enum-told .given .1) (c .before .before .before .slot-place .ensures) (c .before .before .test-length .ensures) (c .enum-told3 .given .1),
+    )
 
-returns-6 : tie.Need-returns-6
-returns-6 c = let s = c .before .before .before .before .before .before .before .before .before .before .before .before .args in head-passed (now (s .configuration)) (now (s .page)) (s .code) (s .n) (le-leb 4 _ (c .before .before .before .before .before .before .before .before .before .if1 .left)) (eq-eqb _ (s .code) (sym (c .before .before .before .before .before .before .before .before .byte-at .ensures) ∙ c .before .before .before .before .before .before .before .if2 .left)) (sym (c .before .before .before .before .before .before .says-its-length .ensures) ∙ not-false _ (c .before .before .before .before .before .if3 .left)) (eq-eqb _ _ (c .before .before .before .if4 .left ∙ c .before .before .before .before .slot-place .ensures)) (eq-eqb _ _ (sym (c .before .before .big32-at .ensures) ∙ c .if5 .left ∙ c .before .big32-at2 .ensures))
+returns-3 : tie.Need-returns-3
+returns-3 c =
+    let s = c .before .before .before .before .before .before .before .before .before .before .args in
+    generation-last (now (s .configuration)) (now (s .page)) (s .code) (s .n)
+    (c .before .before .before .before .before .before .before .test-frame .ensures) (c .before .before .before .before .before .enum-told .given .1)
+    (c .before .before .before .before .slot-place .ensures) (c .before .before .before .test-length .ensures) (c .before .enum-told3 .given .1)
+    (c .test-generation .ensures)
 
 pub test-spec : {M : Type 1} → statement M
 test-spec =
     tie.close
     (tie.spec
+    test-frame-requires
+    enum-told
+    enum-told-2
     returns
-    byte-at-requires
-    returns-2
-    says-its-length-requires
-    returns-3
     slot-place-requires
-    cast-if4
-    returns-4
-    big32-at-requires
-    big32-at-requires-2
-    returns-5
-    returns-6)
+    test-length-requires
+    enum-told-3
+    enum-told-4
+    returns-2
+    test-generation-requires
+    returns-3)

@@ -57,7 +57,15 @@ add-result : tie.Need-add-result Inv-loop μ-loop
 add-result c = omega (arith, c .slot-place .ensures)
 
 returns-2 : tie.Need-returns-2 Inv-loop μ-loop
-returns-2 c = let s = c .before .before .before .before .before .before .before .before .before .before .before .before .args in let h : Fits w8 (c .before .before .before .before .before .before .before .before .before .byte-at .result) = search needs in slot-refused (now (s .configuration)) (now (s .page)) (s .n) (ap (only (2 ∷ 1 ∷ [])) (sym (c .before .before .before .before .before .before .before .before .before .byte-at .ensures)) ∙ sym (mask 0xf9 (2 ∷ 1 ∷ []) refl (c .before .before .before .before .before .before .before .before .before .byte-at .result) h) ∙ eq-eqb _ 0 (c .before .before .before .before .before .before .before .before .if1 .left)) (c .before .before .before .before .before .before .loop .i) (c .before .before .before .before .before .loop-test .taken) (c .before .before .before .before .before .before .loop .inv .2) (slot-offends (now (s .configuration)) (now (s .page)) (c .before .before .before .before .before .before .loop .i) (slot-walked (now (s .configuration)) (c .before .before .before .before .before .before .loop .i) (c .before .before .before .before .run-to .ensures) (c .before .before .before .slot-in .ensures)) (c .before .before .slot-offending .ensures)) (c .before .if2 .taken) (c .slot-place .ensures)
+returns-2 c =
+    let s = c .before .before .before .before .before .before .before .before .before .before .before .before .args in
+    let h : Fits w8 (c .before .before .before .before .before .before .before .before .before .byte-at .result) = search needs in
+    slot-refused (now (s .configuration)) (now (s .page)) (s .n)
+    (ap (only (2 ∷ 1 ∷ [])) (sym (c .before .before .before .before .before .before .before .before .before .byte-at .ensures)) ∙ sym (mask 0xf9 (2 ∷ 1 ∷ []) refl (c .before .before .before .before .before .before .before .before .before .byte-at .result) h) ∙ eq-eqb _ 0 (c .before .before .before .before .before .before .before .before .if1 .left))
+    (c .before .before .before .before .before .before .loop .i) (c .before .before .before .before .before .loop-test .taken)
+    (c .before .before .before .before .before .before .loop .inv .2)
+    (slot-offends (now (s .configuration)) (now (s .page)) (c .before .before .before .before .before .before .loop .i) (slot-walked (now (s .configuration)) (c .before .before .before .before .before .before .loop .i) (c .before .before .before .before .run-to .ensures) (c .before .before .before .slot-in .ensures)) (c .before .before .slot-offending .ensures))
+    (c .before .if2 .taken) (c .slot-place .ensures)
 
 add-i : tie.Need-add-i Inv-loop μ-loop
 add-i c = omega arith

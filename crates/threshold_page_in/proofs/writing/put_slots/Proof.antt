@@ -37,10 +37,19 @@ slot-place-requires : tie.Need-slot-place-requires Inv-loop μ-loop
 slot-place-requires c κs = search needs
 
 threshold-row-requires : tie.Need-threshold-row-requires Inv-loop μ-loop
-threshold-row-requires c κs = let q = c .before .before .before .before .before .before .before .before .before in let s = now (q .args .shelf) in let l = c .before .before .before .before .before .loop in slot-has s (q .pre .0 .0) (l .i) (omega (arith, q .pre .1, c .before .before .before .before .loop-test .taken)) (slot-walked s (l .i) (c .before .before .before .run-to .ensures) (c .before .before .slot-in .ensures))
+threshold-row-requires c κs =
+    let q = c .before .before .before .before .before .before .before .before .before in
+    let s = now (q .args .shelf) in
+    let l = c .before .before .before .before .before .loop in
+    slot-has s (q .pre .0 .0) (l .i) (omega (arith, q .pre .1, c .before .before .before .before .loop-test .taken))
+    (slot-walked s (l .i) (c .before .before .before .run-to .ensures) (c .before .before .slot-in .ensures))
 
 put-four-requires : tie.Need-put-four-requires Inv-loop μ-loop
-put-four-requires c κs = let q = c .before .before .before .before .before .before .before .before .before .before in let l = c .before .before .before .before .before .before .loop in omega (arith, c .before .slot-place .ensures, q .pre .0 .1, q .pre .1, c .before .before .before .before .before .loop-test .taken, fours-length slotPlace (thresholdRow (now (q .args .shelf))) (now (q .args .out)) (l .i) (l .inv .2))
+put-four-requires c κs =
+    let q = c .before .before .before .before .before .before .before .before .before .before in
+    let l = c .before .before .before .before .before .before .loop in
+    omega
+    (arith, c .before .slot-place .ensures, q .pre .0 .1, q .pre .1, c .before .before .before .before .before .loop-test .taken, fours-length slotPlace (thresholdRow (now (q .args .shelf))) (now (q .args .out)) (l .i) (l .inv .2))
 
 add-i : tie.Need-add-i Inv-loop μ-loop
 add-i c = omega arith
@@ -49,7 +58,14 @@ loop-less : tie.Need-loop-less Inv-loop μ-loop
 loop-less c = omega arith
 
 loop-again : tie.Need-loop-again Inv-loop μ-loop
-loop-again c = let s = c .before .before .before .before .before .before .before .before .before .before .before .before .before .args in let l = c .before .before .before .before .before .before .before .before .before .loop in let r = c .before .before .before .before .before .before .before .run-to .ensures in (omega (arith, c .before .before .before .before .before .before .before .before .loop-test .taken), walk-on (now (s .shelf)) (l .i) r, fours-next slotPlace (thresholdRow (now (s .shelf))) (now (s .out)) (l .i) (l .inv .2) (c .before .before .before .before .slot-place .ensures) (row-is (now (s .shelf)) (l .i) r (c .before .before .before .before .before .before .slot-in .ensures) (c .before .before .before .threshold-row .ensures)) (c .before .before .put-four .ensures))
+loop-again c =
+    let s = c .before .before .before .before .before .before .before .before .before .before .before .before .before .args in
+    let l = c .before .before .before .before .before .before .before .before .before .loop in
+    let r = c .before .before .before .before .before .before .before .run-to .ensures in (
+      omega (arith, c .before .before .before .before .before .before .before .before .loop-test .taken),
+      walk-on (now (s .shelf)) (l .i) r,
+      fours-next slotPlace (thresholdRow (now (s .shelf))) (now (s .out)) (l .i) (l .inv .2) (c .before .before .before .before .slot-place .ensures) (row-is (now (s .shelf)) (l .i) r (c .before .before .before .before .before .before .slot-in .ensures) (c .before .before .before .threshold-row .ensures)) (c .before .before .put-four .ensures),
+    )
 
 same-length : tie.Need-same-length Inv-loop μ-loop
 same-length c = let s = c .before .before .before .before .before .args in fours-length slotPlace (thresholdRow (now (s .shelf))) (now (s .out)) (c .before .loop .i) (c .before .loop .inv .2)

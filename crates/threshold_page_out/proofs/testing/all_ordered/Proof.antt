@@ -33,16 +33,33 @@ loop-holds : tie.Need-loop-holds Inv-loop μ-loop
 loop-holds c = (omega arith, c .first-run .ensures, refl)
 
 run-to-requires : tie.Need-run-to-requires Inv-loop μ-loop
-run-to-requires c κs = let q = c .before .before .before .before .before .before in let s = q .args in let l = c .before .loop in let h : l .j < elementsOf (now (s .shelf)) = omega (arith, c .before .before .before .all-elements .ensures, c .loop-test .taken) in (element-there (now (s .shelf)) (now (s .page)) (q .pre) (now (s .shelf)) refl refl (l .j) h .0, l .inv .1)
+run-to-requires c κs =
+    let q = c .before .before .before .before .before .before in
+    let s = q .args in
+    let l = c .before .loop in
+    let h : l .j < elementsOf (now (s .shelf)) = omega (arith, c .before .before .before .all-elements .ensures, c .loop-test .taken) in
+    (element-there (now (s .shelf)) (now (s .page)) (q .pre) (now (s .shelf)) refl refl (l .j) h .0, l .inv .1)
 
 places-in-requires : tie.Need-places-in-requires Inv-loop μ-loop
 places-in-requires c κs = search needs
 
 element-ordered-requires : tie.Need-element-ordered-requires Inv-loop μ-loop
-element-ordered-requires c κs = let q = c .before .before .before .before .before .before .before .before in let s = q .args in let l = c .before .before .before .loop in let e = places-run (now (s .shelf)) (l .j) (c .before .run-to .ensures) (c .places-in .ensures) in let h : l .j < elementsOf (now (s .shelf)) = omega (arith, c .before .before .before .before .before .all-elements .ensures, c .before .before .loop-test .taken) in let r = element-there (now (s .shelf)) (now (s .page)) (q .pre) (now (s .shelf)) refl refl (l .j) h in (r .0, (rw e (r .1), e))
+element-ordered-requires c κs =
+    let q = c .before .before .before .before .before .before .before .before in
+    let s = q .args in
+    let l = c .before .before .before .loop in
+    let e = places-run (now (s .shelf)) (l .j) (c .before .run-to .ensures) (c .places-in .ensures) in
+    let h : l .j < elementsOf (now (s .shelf)) = omega
+    (arith, c .before .before .before .before .before .all-elements .ensures, c .before .before .loop-test .taken) in
+    let r = element-there (now (s .shelf)) (now (s .page)) (q .pre) (now (s .shelf)) refl refl (l .j) h in
+    (r .0, (rw e (r .1), e))
 
 returns : tie.Need-returns Inv-loop μ-loop
-returns c = let s = c .before .before .before .before .before .before .before .before .before .before .args in let l = c .before .before .before .before .before .loop in not-ordered (now (s .shelf)) (now (s .page)) (l .j) (c .before .before .before .before .before .before .before .all-elements .ensures) (c .before .before .before .before .loop-test .taken) (sym (c .before .element-ordered .ensures) ∙ not-true _ (c .if1 .taken))
+returns c =
+    let s = c .before .before .before .before .before .before .before .before .before .before .args in
+    let l = c .before .before .before .before .before .loop in
+    not-ordered (now (s .shelf)) (now (s .page)) (l .j) (c .before .before .before .before .before .before .before .all-elements .ensures)
+    (c .before .before .before .before .loop-test .taken) (sym (c .before .element-ordered .ensures) ∙ not-true _ (c .if1 .taken))
 
 add-j : tie.Need-add-j Inv-loop μ-loop
 add-j c = omega arith
@@ -51,10 +68,20 @@ loop-less : tie.Need-loop-less Inv-loop μ-loop
 loop-less c = omega arith
 
 loop-again : tie.Need-loop-again Inv-loop μ-loop
-loop-again c = let s = c .before .before .before .before .before .before .before .before .before .before .args in let l = c .before .before .before .before .before .loop in (omega arith, run-on (now (s .shelf)) (l .j) (c .before .before .before .run-to .ensures), below-next (elementOrdered (now (s .shelf)) (now (s .page))) (l .j) (l .inv .2) (sym (c .before .element-ordered .ensures) ∙ not-false _ (c .if1 .left)))
+loop-again c =
+    let s = c .before .before .before .before .before .before .before .before .before .before .args in
+    let l = c .before .before .before .before .before .loop in (
+      omega arith,
+      run-on (now (s .shelf)) (l .j) (c .before .before .before .run-to .ensures),
+      below-next (elementOrdered (now (s .shelf)) (now (s .page))) (l .j) (l .inv .2) (sym (c .before .element-ordered .ensures) ∙ not-false _ (c .if1 .left)),
+    )
 
 returns-2 : tie.Need-returns-2 Inv-loop μ-loop
-returns-2 c = let s = c .before .before .before .before .before .before .args in let l = c .before .loop in let e : l .j ≡ c .before .before .before .all-elements .result = omega arith in each-ordered (now (s .shelf)) (now (s .page)) (l .j) (c .before .before .before .all-elements .ensures) e (l .inv .2)
+returns-2 c =
+    let s = c .before .before .before .before .before .before .args in
+    let l = c .before .loop in
+    let e : l .j ≡ c .before .before .before .all-elements .result = omega arith in
+    each-ordered (now (s .shelf)) (now (s .page)) (l .j) (c .before .before .before .all-elements .ensures) e (l .inv .2)
 
 pub all-ordered-spec : {M : Type 1} → statement M
 all-ordered-spec =

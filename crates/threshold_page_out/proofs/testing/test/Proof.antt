@@ -1,65 +1,57 @@
 -- `threshold_page_out::testing::test` meets its contract. Assumes nothing.
-use mathlib.Core.Path.{sym, ap, _∙_}
-use Prim.Native.Nat.{ℕ}
-use native.Mathlib.Omega.{arith}
-use lib.Dec.{eqb}
+use Rattle.threshold_page_out.specs.Tests.{bytesTested, thresholdsTested}
+use Rattle.page.specs.Header.{pageTested}
+use Rattle.page.specs.Slots.{slotsOf}
+use Rattle.refusals.proofs.Stages.{count-refused, count-passed}
+use Rattle.threshold_page_out.proofs.Tests.{page-room}
 use denote.Ref.{now}
-use borrow.Author.Tests.{eq-eqb, ne-eqb, not-true, not-false}
-use Rattle.page.proofs.ElementSlots.{page-has, page-front}
-use Rattle.threshold_page_out.proofs.Tests.{page-refused, byte-refused, not-had, order-refused, page-passed}
 use borrow.Author.Needs.{needs}
 use Rattle.threshold_page_out.proofs.testing.test.Statement.{statement}
 use Rattle.threshold_page_out.proofs.testing.test.Tie as tie
 
-page-requires : tie.Need-page-requires
-page-requires c κs = search needs
+page-slots-requires : tie.Need-page-slots-requires
+page-slots-requires c κs = search needs
+
+enum-known-tested : tie.Need-enum-known-tested
+enum-known-tested c = search needs
 
 enum-told : tie.Need-enum-told
 enum-told c = search needs
 
-enum-told-2 : tie.Need-enum-told-2
-enum-told-2 c = search needs
+answer-requires : tie.Need-answer-requires
+answer-requires c κs = search needs
 
 returns : tie.Need-returns
-returns c = let s = c .before .before .before .before .before .args in page-refused (now (s .shelf)) (now (s .page)) (c .before .before .page .ensures) (c .enum-told2 .given .1)
+unfolding thresholdsTested
+returns c =
+    let s = c .before .before .before .before .before .before .args in
+    let f = now (s .shelf) in
+    let p = now (s .page) in
+    count-refused (pageTested f p 0x05) (slotsOf f) (c .before .before .before .page-slots .ensures) (bytesTested f p)
+    (c .before .enum-told .given .1) (c .answer .ensures)
 
-byte-at-requires : tie.Need-byte-at-requires
-byte-at-requires c κs = let s = c .before .before .before .before .before .args in omega (arith, page-has (now (s .shelf)) (now (s .page)) 0x05 (c .before .before .page .ensures) (c .enum-told .given .1) .1)
+test-bytes-requires : tie.Need-test-bytes-requires
+test-bytes-requires c κs =
+    let s = c .before .before .before .before .before .before .args in
+    page-room (now (s .shelf)) (now (s .page)) (c .before .before .before .page-slots .ensures) (c .before .tested .given .1)
 
 returns-2 : tie.Need-returns-2
-returns-2 c = let s = c .before .before .before .before .before .before .before .args in byte-refused (now (s .shelf)) (now (s .page)) (c .before .before .before .before .page .ensures) (c .before .before .enum-told .given .1) (ap (λ (x : ℕ). eqb x 0) (sym (c .before .byte-at .ensures)) ∙ ne-eqb _ 0 (c .if1 .taken))
-
-count-requires : tie.Need-count-requires
-count-requires c κs = let s = c .before .before .before .before .before .before .before .args in page-front (now (s .shelf)) (now (s .page)) 0x05 (c .before .before .before .before .page .ensures) (c .before .before .enum-told .given .1) .1
-
-all-had-requires : tie.Need-all-had-requires
-all-had-requires c κs = let s = c .before .before .before .before .before .before .before .before .args in (page-front (now (s .shelf)) (now (s .page)) 0x05 (c .before .before .before .before .before .page .ensures) (c .before .before .before .enum-told .given .1), omega (arith, c .count .ensures), omega (arith, c .count .ensures, page-has (now (s .shelf)) (now (s .page)) 0x05 (c .before .before .before .before .before .page .ensures) (c .before .before .before .enum-told .given .1) .1))
-
-returns-3 : tie.Need-returns-3
-returns-3 c = let s = c .before .before .before .before .before .before .before .before .before .before .args in not-had (now (s .shelf)) (now (s .page)) (c .before .before .before .before .before .before .before .page .ensures) (c .before .before .before .before .before .enum-told .given .1) (ap (λ (x : ℕ). eqb x 0) (sym (c .before .before .before .before .byte-at .ensures)) ∙ eq-eqb _ 0 (c .before .before .before .if1 .left)) (c .before .before .count .ensures) (c .before .all-had .ensures) (not-true _ (c .if2 .taken))
-
-all-ordered-requires : tie.Need-all-ordered-requires
-all-ordered-requires c κs = let s = c .before .before .before .before .before .before .before .before .before .before .args in page-has (now (s .shelf)) (now (s .page)) 0x05 (c .before .before .before .before .before .before .before .page .ensures) (c .before .before .before .before .before .enum-told .given .1)
-
-returns-4 : tie.Need-returns-4
-returns-4 c = let s = c .before .before .before .before .before .before .before .before .before .before .before .before .args in order-refused (now (s .shelf)) (now (s .page)) (c .before .before .before .before .before .before .before .before .before .page .ensures) (c .before .before .before .before .before .before .before .enum-told .given .1) (ap (λ (x : ℕ). eqb x 0) (sym (c .before .before .before .before .before .before .byte-at .ensures)) ∙ eq-eqb _ 0 (c .before .before .before .before .before .if1 .left)) (c .before .before .before .before .count .ensures) (c .before .before .before .all-had .ensures) (not-false _ (c .before .before .if2 .left)) (c .before .all-ordered .ensures) (not-true _ (c .if3 .taken))
-
-returns-5 : tie.Need-returns-5
-returns-5 c = let s = c .before .before .before .before .before .before .before .before .before .before .before .before .args in page-passed (now (s .shelf)) (now (s .page)) (c .before .before .before .before .before .before .before .before .before .page .ensures) (c .before .before .before .before .before .before .before .enum-told .given .1) (ap (λ (x : ℕ). eqb x 0) (sym (c .before .before .before .before .before .before .byte-at .ensures)) ∙ eq-eqb _ 0 (c .before .before .before .before .before .if1 .left)) (c .before .before .before .before .count .ensures) (c .before .before .before .all-had .ensures) (not-false _ (c .before .before .if2 .left)) (c .before .all-ordered .ensures) (not-false _ (c .if3 .left))
+unfolding thresholdsTested
+returns-2 c =
+    let s = c .before .before .before .before .before .before .before .args in
+    let f = now (s .shelf) in
+    let p = now (s .page) in
+    count-passed (pageTested f p 0x05) (slotsOf f) (c .before .before .before .before .page-slots .ensures) (bytesTested f p)
+    (c .before .before .tested .given .1) (c .test-bytes .ensures)
 
 pub test-spec : {M : Type 1} → statement M
 test-spec =
     tie.close
     (tie.spec
-    page-requires
+    page-slots-requires
+    enum-known-tested
     enum-told
-    enum-told-2
+    answer-requires
     returns
-    byte-at-requires
-    returns-2
-    count-requires
-    all-had-requires
-    returns-3
-    all-ordered-requires
-    returns-4
-    returns-5)
+    test-bytes-requires
+    returns-2)

@@ -1,0 +1,64 @@
+-- `configuration_page::reading::hand_over` meets its contract. Assumes nothing.
+use native.Mathlib.Omega.{arith}
+use denote.Ref.{now}
+use Rattle.configuration_page.proofs.AcceptedPage.{headers-in}
+use Rattle.configuration_page.proofs.Loops.{parts-done}
+use Rattle.configuration_page.proofs.Refusals.{record-placed}
+use borrow.Author.Needs.{needs}
+use Rattle.configuration_page.proofs.reading.hand_over.Statement.{statement}
+use Rattle.configuration_page.proofs.reading.hand_over.Tie as tie
+
+byte-at-requires : tie.Need-byte-at-requires
+byte-at-requires c κs = let s = c .before .before in omega (arith, headers-in (now (s .args .page)) (s .pre .0))
+
+four-at-requires : tie.Need-four-at-requires
+four-at-requires c κs = let s = c .before .before .before .before in omega (arith, headers-in (now (s .args .page)) (s .pre .0))
+
+put-four-requires : tie.Need-put-four-requires
+put-four-requires c κs = search needs
+
+cast-copy : tie.Need-cast-copy
+cast-copy c = search needs
+
+copy-requires : tie.Need-copy-requires
+copy-requires c κs = let s = c .before .before .before .before .before .before .before .before .before in let h = headers-in (now (s .args .page)) (s .pre .0) in (omega arith, omega arith)
+
+put-four-requires-2 : tie.Need-put-four-requires-2
+put-four-requires-2 c κs = search needs
+
+put-types-requires : tie.Need-put-types-requires
+put-types-requires c κs =
+    let s = c .before .before .before .before .before .before .before .before .before .before .before .before .before .before .before .before .before
+    in
+    (s .pre .0, omega (arith, s .pre .1))
+
+same-length : tie.Need-same-length
+same-length c = search needs
+
+returns : tie.Need-returns
+returns c =
+    let s = c .before .before .before .before .before .before .before .before .before .before .before .before .before .before .before .before .before
+    .before .before .before .args in
+    let q = parts-done (now (s .page)) (now (s .configuration))
+    (c .before .before .before .before .before .before .before .before .before .before .before .before .before .before .before .before .before .byte-at .ensures)
+    (c .before .before .before .before .before .before .before .before .before .before .before .before .before .before .before .four-at .ensures)
+    (c .before .before .before .before .before .before .before .before .before .before .before .before .before .before .put-four .ensures)
+    (c .before .before .before .before .before .before .before .before .before .before .copy .ensures)
+    (c .before .before .before .before .before .before .put-four2 .ensures) (c .before .before .put-types .ensures) in
+    record-placed (now (s .page)) (now (s .configuration))
+    (c .before .before .before .before .before .before .before .before .before .before .before .before .before .before .before .before .before .before .before .before .pre .1)
+    q
+
+pub hand-over-spec : {M : Type 1} → statement M
+hand-over-spec =
+    tie.close
+    (tie.spec
+    byte-at-requires
+    four-at-requires
+    put-four-requires
+    cast-copy
+    copy-requires
+    put-four-requires-2
+    put-types-requires
+    same-length
+    returns)

@@ -1,0 +1,57 @@
+-- `configuration_page::writing::put` meets its contract. Assumes nothing.
+use native.Mathlib.Omega.{arith}
+use denote.Ref.{now}
+use Rattle.shelf_formed.proofs.FormedShelf.{few-types}
+use Rattle.configuration_page.proofs.RowsPut.{has-headers, not-empty, page-placed}
+use borrow.Author.Needs.{needs}
+use Rattle.configuration_page.proofs.writing.put.Statement.{statement}
+use Rattle.configuration_page.proofs.writing.put.Tie as tie
+
+count-requires : tie.Need-count-requires
+count-requires c κs = search needs
+
+sub-put-fixed : tie.Need-sub-put-fixed
+sub-put-fixed c = not-empty (now (c .before .before .before .args .front)) (c .before .before .before .pre .1 .0)
+
+put-fixed-requires : tie.Need-put-fixed-requires
+put-fixed-requires c κs =
+    let s = c .before .before .before .before .args in
+    let p = c .before .before .before .before .pre in
+    (p .0 .1, omega (arith, has-headers (now (s .front)) (now (s .out)) (p .1 .0) (p .1 .1)))
+
+put-headers-requires : tie.Need-put-headers-requires
+put-headers-requires c κs =
+    let s = c .before .before .before .before .before .before .before .before .args in
+    let p = c .before .before .before .before .before .before .before .before .pre in
+    let n = c .before .before .before .before .before .count .ensures in
+    let h = has-headers (now (s .front)) (now (s .out)) (p .1 .0) (p .1 .1) in
+    (p .0 .1, (omega (arith, n, few-types (now (s .front)) (p .0 .0)), omega (arith, n, h)))
+
+put-texts-requires : tie.Need-put-texts-requires
+put-texts-requires c κs =
+    let p = c .before .before .before .before .before .before .before .before .before .before .before .before .pre in
+    (p .0, (c .before .before .before .before .before .before .before .before .before .count .ensures, omega (arith, p .1 .0, p .1 .1)))
+
+same-length : tie.Need-same-length
+same-length c = search needs
+
+returns : tie.Need-returns
+returns c =
+    let s = c .before .before .before .before .before .before .before .before .before .before .before .before .before .before .before .args in
+    let p = c .before .before .before .before .before .before .before .before .before .before .before .before .before .before .before .pre in
+    page-placed (now (s .front)) (now (s .out)) (p .1 .0) (p .1 .1)
+    (c .before .before .before .before .before .before .before .before .before .before .before .before .count .ensures)
+    (c .before .before .before .before .before .before .before .before .before .before .put-fixed .ensures)
+    (c .before .before .before .before .before .before .put-headers .ensures) (c .before .before .put-texts .ensures)
+
+pub put-spec : {M : Type 1} → statement M
+put-spec =
+    tie.close
+    (tie.spec
+    count-requires
+    sub-put-fixed
+    put-fixed-requires
+    put-headers-requires
+    put-texts-requires
+    same-length
+    returns)

@@ -1,0 +1,51 @@
+-- The stages of a call, one after the other: a refusal passes on at once, and an accepted stage leaves the answer to the next. Assumes nothing.
+use mathlib.Core.Path.{_≡_, refl, sym, ap, _∙_}
+use Prim.Native.Nat.{ℕ}
+use native.Mathlib.Omega.{arith}
+use Rattle.refusals.specs.declared.Refusal.{Refusal}
+use Rattle.refusals.specs.declared.Answer.{Answer}
+use Rattle.refusals.specs.declared.Answer.the-variants as answer
+use Rattle.refusals.specs.declared.Tested.{Tested}
+use Rattle.refusals.specs.declared.Tested.the-variants.{Slots, Refused}
+use Rattle.refusals.specs.Outcomes.{next, withSlots, answerOf}
+
+module _ (x rest : Answer) {a : Answer} (h : a ≡ x) where
+  pub stopped : {r : Refusal} → a ≡ answer.Refused r → a ≡ next x rest
+  stopped u = u ∙ sym (rw (← h, u))
+
+  pub gone-on : {b : Answer} → a ≡ answer.Accepted → b ≡ rest → b ≡ next x rest
+  gone-on u q = q ∙ sym (rw (← h, u))
+
+-- tests that counted the slots
+module _ (x : Answer) (m : ℕ) {t : Tested} (h : t ≡ withSlots x m) where
+  pub slots-told : {n : ℕ} → t ≡ Slots n → (x ≡ answer.Accepted) × (n ≡ m)
+  slots-told {n} u = go x (sym u ∙ h)
+    where
+      go : (y : Answer) → Slots n ≡ withSlots y m → (y ≡ answer.Accepted) × (n ≡ m)
+      go answer.Accepted e = (refl, cc)
+      go (answer.Refused r) e = let z : _≡_ {A = ℕ} 0 1 = cc in absurd (omega arith)
+
+  pub refusal-told : {r : Refusal} → t ≡ Refused r → x ≡ answer.Refused r
+  refusal-told {r} u = go x (sym u ∙ h)
+    where
+      go : (y : Answer) → Refused r ≡ withSlots y m → y ≡ answer.Refused r
+      go answer.Accepted e = let z : _≡_ {A = ℕ} 0 1 = cc in absurd (omega arith)
+      go (answer.Refused q) e = cc
+
+  pub answer-told : {a : Answer} {r : Refusal} → t ≡ Refused r → a ≡ answerOf t → (a ≡ x) × (a ≡ answer.Refused r)
+  answer-told u e = let q = e ∙ ap answerOf u in (q ∙ sym (refusal-told u), q)
+
+  -- and the stage behind them, of as many slots
+  module _ (rest : ℕ → Answer) where
+    pub count-refused : {a : Answer} {r : Refusal} → t ≡ Refused r → a ≡ answerOf t → a ≡ next x (rest m)
+    count-refused u e = e ∙ ap answerOf u ∙ sym (rw (refusal-told u))
+
+    pub count-passed : {n : ℕ} {b : Answer} → t ≡ Slots n → b ≡ rest n → b ≡ next x (rest m)
+    count-passed u p = let e = slots-told u in p ∙ ap rest (e .1) ∙ sym (rw (e .0))
+
+    -- where the count is handed on
+    pub count-stopped : {r : Refusal} → t ≡ Refused r → t ≡ withSlots (next x (rest m)) m
+    count-stopped u = u ∙ sym (rw (refusal-told u))
+
+    pub count-gone-on : {n : ℕ} {b : Answer} {o : Tested} → t ≡ Slots n → b ≡ rest n → o ≡ withSlots b n → o ≡ withSlots (next x (rest m)) m
+    count-gone-on u p q = let e = slots-told u in q ∙ rw (p, e .0, e .1)

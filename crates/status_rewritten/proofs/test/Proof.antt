@@ -1,0 +1,58 @@
+-- `status_rewritten::test` meets its contract. Assumes nothing.
+use denote.Ref.{now}
+use Rattle.refusals.proofs.Stages.{count-refused, count-passed}
+use Rattle.page.specs.Header.{configurationTested}
+use Rattle.page.specs.Slots.{slotsOf}
+use Rattle.page.proofs.SlotsCounted.{configuration-counted}
+use Rattle.status_rewritten.specs.Rewritten.{entriesTested, recordTested}
+use borrow.Author.Needs.{needs}
+use Rattle.status_rewritten.proofs.test.Statement.{statement}
+use Rattle.status_rewritten.proofs.test.Tie as tie
+
+configuration-slots-requires : tie.Need-configuration-slots-requires
+configuration-slots-requires c κs = search needs
+
+enum-known-configured : tie.Need-enum-known-configured
+enum-known-configured c = search needs
+
+enum-told : tie.Need-enum-told
+enum-told c = search needs
+
+answer-requires : tie.Need-answer-requires
+answer-requires c κs = search needs
+
+returns : tie.Need-returns
+unfolding recordTested
+returns c =
+    let s = c .before .before .before .before .before .args in
+    let k = now (s .configuration) in
+    let r = now (s .fields) in
+    count-refused (configurationTested k) (slotsOf k) (c .before .before .before .configuration-slots .ensures) (entriesTested k r)
+    (c .before .enum-told .given .1) (c .answer .ensures)
+
+test-entries-requires : tie.Need-test-entries-requires
+test-entries-requires c κs =
+    let e = configuration-counted (now (c .before .before .before .before .before .args .configuration)) (c .before .configured .given .1)
+    (c .before .before .before .configuration-slots .ensures) in
+    (e .1, e .2)
+
+returns-2 : tie.Need-returns-2
+unfolding recordTested
+returns-2 c =
+    let s = c .before .before .before .before .before .before .args in
+    let k = now (s .configuration) in
+    let r = now (s .fields) in
+    count-passed (configurationTested k) (slotsOf k) (c .before .before .before .before .configuration-slots .ensures) (entriesTested k r)
+    (c .before .before .configured .given .1) (c .test-entries .ensures)
+
+pub test-spec : {M : Type 1} → statement M
+test-spec =
+    tie.close
+    (tie.spec
+    configuration-slots-requires
+    enum-known-configured
+    enum-told
+    answer-requires
+    returns
+    test-entries-requires
+    returns-2)

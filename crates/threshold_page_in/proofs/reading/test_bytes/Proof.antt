@@ -1,0 +1,23 @@
+-- `threshold_page_in::reading::test_bytes` meets its contract. Assumes nothing.
+use denote.Ref.{now}
+use Rattle.threshold_page_in.proofs.Refusals.{byte-refused, rows-last}
+use borrow.Author.Needs.{needs}
+use Rattle.threshold_page_in.proofs.reading.test_bytes.Statement.{statement}
+use Rattle.threshold_page_in.proofs.reading.test_bytes.Tie as tie
+
+byte-at-requires : tie.Need-byte-at-requires
+byte-at-requires c κs = search needs
+
+returns : tie.Need-returns
+returns c = let s = c .before .before .before .before .args in byte-refused (now (s .configuration)) (now (s .page)) (s .n) (c .before .byte-at .ensures) (c .if1 .taken)
+
+test-requires : tie.Need-test-requires
+test-requires c κs = search needs
+
+returns-2 : tie.Need-returns-2
+returns-2 c =
+    let s = c .before .before .before .before .before .args in
+    rows-last (now (s .configuration)) (now (s .page)) (s .n) (c .before .before .byte-at .ensures) (c .before .if1 .left) (c .test .ensures)
+
+pub test-bytes-spec : {M : Type 1} → statement M
+test-bytes-spec = tie.close (tie.spec byte-at-requires returns test-requires returns-2)

@@ -1,0 +1,28 @@
+-- `threshold_page_in::writing::put` meets its contract. Assumes nothing.
+use native.Mathlib.Omega.{arith}
+use denote.Ref.{now}
+use Rattle.page.proofs.ElementSlots.{front-there}
+use Rattle.threshold_page_in.proofs.Refusals.{shelf-placed}
+use borrow.Author.Needs.{needs}
+use Rattle.threshold_page_in.proofs.writing.put.Statement.{statement}
+use Rattle.threshold_page_in.proofs.writing.put.Tie as tie
+
+put-requires : tie.Need-put-requires
+put-requires c κs = let s = c .before .before .before .args in (front-there (now (s .shelf)) (now (s .out)) (c .before .before .before .pre .0) .1, omega (arith, c .before .before .before .pre .0 .1))
+
+put-slots-requires : tie.Need-put-slots-requires
+put-slots-requires c κs = search needs
+
+same-length : tie.Need-same-length
+same-length c = search needs
+
+returns : tie.Need-returns
+returns c =
+    let s = c .before .before .before .before .before .before .before .before .before .before .args in
+    let e = c .before .before .before .before .before .before .before .before .before .before .pre .1 in
+    shelf-placed (now (s .shelf)) e (now (s .out))
+    (omega (arith, e, c .before .before .before .before .before .before .before .before .before .before .pre .0 .1))
+    (c .before .before .before .before .before .before .put .ensures) (c .before .before .put-slots .ensures)
+
+pub put-spec : {M : Type 1} → statement M
+put-spec = tie.close (tie.spec put-requires put-slots-requires same-length returns)

@@ -1,14 +1,17 @@
 -- Rows of bytes: how a loop writes them one after the other, and where each is read. Assumes nothing.
 use mathlib.Core.Path.{_≡_, refl, sym, ap, _∙_}
+use mathlib.Core.Bool.{Bool, true, false}
 use mathlib.Core.List.{List, [], _∷_, _++_, append-assoc, append-nil}
 use mathlib.Core.Logic.{⊎-elim}
 use Prim.Native.Nat.{ℕ, zero, suc, _+_, _*_, _<_, _≤_}
 use native.Mathlib.Nat.{not-suc-le-zero, le-of-suc-le-suc, eq-or-lt-of-le, mul-suc, mul-zero, add-zero}
 use native.Mathlib.Numerals.{add-one}
 use native.Mathlib.Omega.{arith}
+use lib.Dec.{leb}
 use lib.ListN.{length, getD, take, drop, set, length-append, length-drop, take-append-drop, List·getD-append}
 use lib.Seq.{sets, sets-eq, take-at, drop-append-add, drop-drop, drop-cons, take-add, getD-append-add, getD-drop, take-suc, set-at, append-snoc, length-take-le}
-use borrow.Author.Tests.{le-leb}
+use borrow.Author.Tests.{le-leb, leb-true}
+use Rattle.bits.specs.Choice.{pick}
 use Rattle.bits.specs.Places.{fourAt, putFour}
 use Rattle.bits.specs.Rows.{joined, oneAt, bytesAt, putBytes}
 use Rattle.bits.proofs.Logic.{pick-yes}
@@ -89,6 +92,16 @@ unfolding putBytes
 bytes-next p s f k e h =
     pick-yes _ _ _ (le-leb (k + length f) (length (p ++ drop k s)) (length-behind p s k (length f) e h))
     ∙ behind p s f k (length f) e
+
+pub length-put-bytes : (s : List ℕ) (k : ℕ) (f : List ℕ) → length (putBytes s k f) ≡ length s
+unfolding putBytes
+length-put-bytes s k f = go (leb (k + length f) (length s)) refl
+  where
+    go : (b : Bool) → leb (k + length f) (length s) ≡ b → length (pick b (take k s ++ f ++ drop (k + length f) s) s) ≡ length s
+    go true e =
+        let l = leb-true (k + length f) (length s) e in
+        simp (length-append, length-drop) (rw (length-take-le k s (omega arith)) (omega arith))
+    go false e = refl
 
 -- four bytes of a list, and the list up to and behind them
 pub drop-four : (s : List ℕ) (k : ℕ) → k + 4 ≤ length s → drop k s ≡ fourAt s k ++ drop (k + 4) s

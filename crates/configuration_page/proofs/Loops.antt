@@ -13,7 +13,7 @@ use Rattle.bits.specs.Choice.{pick, sumBelow}
 use Rattle.bits.specs.Places.{fourAt, putFour}
 use Rattle.bits.specs.Rows.{joined, bytesAt, putBytes}
 use Rattle.bits.proofs.FourPut.{length-put}
-use Rattle.bits.proofs.Rows.{length-joined, bytes-there}
+use Rattle.bits.proofs.Rows.{length-joined, bytes-there, length-put-bytes}
 use Rattle.shelf.specs.Limits.{mostTypes, mostText, typePlace, textPlace}
 use Rattle.shelf.specs.Types.{typesOf, typeCode, typeCount, textLength}
 use Rattle.configuration_page.specs.Page.{headerPlace, textOf, textStart, fixedPut, headersPut, textsPut}
@@ -46,16 +46,6 @@ total-none p j = refl
 pub total-next : (p : List ℕ) (j t : ℕ) {a n : ℕ} → a ≡ totalBefore p j t → n ≡ headerByte p j t → a + n ≡ totalBefore p j (t + 1)
 unfolding totalBefore
 total-next p j t e q = omega (arith, sum-next (headerByte p j) t)
-
-length-put-bytes : (s : List ℕ) (k : ℕ) (f : List ℕ) → length (putBytes s k f) ≡ length s
-unfolding putBytes
-length-put-bytes s k f = go (leb (k + length f) (length s)) refl
-  where
-    go : (b : Bool) → leb (k + length f) (length s) ≡ b → length (pick b (take k s ++ f ++ drop (k + length f) s) s) ≡ length s
-    go true e =
-        let l = leb-true (k + length f) (length s) e in
-        simp (length-append, length-drop) (rw (length-take-le k s (omega arith)) (omega arith))
-    go false e = refl
 
 length-type-put : (p : List ℕ) (t : ℕ) (c : List ℕ) → length (typePut p t c) ≡ length c
 unfolding typePut

@@ -1,6 +1,6 @@
--- What each function of the code comes to, from what the calls in it say. Assumes nothing.
-use mathlib.Core.Path.{_≡_, refl, ap, _∙_}
-use mathlib.Core.Bool.{Bool, false, not, _&&_, _||_}
+-- What the functions over a layout come to, from what the calls in them say. Assumes nothing.
+use mathlib.Core.Path.{_≡_, ap, _∙_}
+use mathlib.Core.Bool.{false}
 use mathlib.Core.List.{List, [], _∷_}
 use Prim.Native.Nat.{ℕ, _/_}
 use lib.Bits.{bitAnd, bitOr}
@@ -8,14 +8,11 @@ use lib.Dec.{eqb}
 use lib.ListN.{getD}
 use Rattle.bits.specs.Bits.{nibble, join}
 use Rattle.bits.proofs.Halves.{and1}
-use Rattle.element.specs.declared.types.Kind.{Kind}
 use Rattle.element.specs.declared.layout.Layout.{Layout}
 use Rattle.element.specs.declared.settings.Settings.{Settings}
-use Rattle.element.specs.Layouts.{said, stored, formed, unnamed}
-use Rattle.element.specs.Types.{layoutOf}
-use Rattle.element.specs.Settings.{settingsOf, settingsBytes, settingsFormed}
+use Rattle.element.specs.Layouts.{said, stored}
 
-module _ (k : Kind) {l : Layout} (p : l ≡ layoutOf k) where
+module _ (l : Layout) where
   -- bits by shift and mask
   pub said-is : (e : List ℕ)
       → _≡_ {A = Settings}
@@ -28,8 +25,7 @@ module _ (k : Kind) {l : Layout} (p : l ≡ layoutOf k) where
         flags3 = bitAnd (getD e 3 0) (l .flags3);
         speed = bitAnd (getD e 3 0) (l .speed);
       })
-      (settingsOf k e)
-  unfolding settingsOf
+      (said l e)
   said-is e =
       let a = and1 (getD e 0 0 / 64) in
       let b = and1 (getD e 0 0 / 32) in
@@ -38,10 +34,10 @@ module _ (k : Kind) {l : Layout} (p : l ≡ layoutOf k) where
         prdfail = eqb (a i) 1;
         disabled = eqb (b i) 1;
         swap = eqb (c i) 1;
-        flags1 = bitAnd (getD e 1 0) (p i .flags1);
-        flags2 = bitAnd (getD e 2 0) (p i .flags2);
-        flags3 = bitAnd (getD e 3 0) (p i .flags3);
-        speed = bitAnd (getD e 3 0) (p i .speed);
+        flags1 = bitAnd (getD e 1 0) (l .flags1);
+        flags2 = bitAnd (getD e 2 0) (l .flags2);
+        flags3 = bitAnd (getD e 3 0) (l .flags3);
+        speed = bitAnd (getD e 3 0) (l .speed);
       }
 
   pub stored-is : (s : Settings) {a h : ℕ} → h ≡ nibble false (s .prdfail) (s .disabled) (s .swap) → a ≡ join h 0
@@ -50,15 +46,7 @@ module _ (k : Kind) {l : Layout} (p : l ≡ layoutOf k) where
       ∷ bitAnd (s .flags2) (l .flags2)
       ∷ bitOr (bitAnd (s .flags3) (l .flags3)) (bitAnd (s .speed) (l .speed))
       ∷ []
-      ≡ settingsBytes k s
-  unfolding settingsBytes
-  stored-is s {a} {h} q r =
-      ap (λ (x : ℕ). x ∷ bitAnd (s .flags1) (l .flags1) ∷ bitAnd (s .flags2) (l .flags2) ∷ bitOr (bitAnd (s .flags3) (l .flags3)) (bitAnd (s .speed) (l .speed)) ∷ []) (r ∙ ap (λ (x : ℕ). join x 0) q)
-      ∙ ap (λ (x : Layout). stored x s) p
-
-  pub formed-is : (e : List ℕ) → formed l e ≡ settingsFormed k e
-  unfolding settingsFormed
-  formed-is e = ap (λ (x : Layout). formed x e) p
-
-  pub unnamed-is : (e : List ℕ) → unnamed l e ≡ unnamed (layoutOf k) e
-  unnamed-is e = ap (λ (x : Layout). unnamed x e) p
+      ≡ stored l s
+  stored-is s q r =
+      ap (λ (x : ℕ). x ∷ bitAnd (s .flags1) (l .flags1) ∷ bitAnd (s .flags2) (l .flags2) ∷ bitOr (bitAnd (s .flags3) (l .flags3)) (bitAnd (s .speed) (l .speed)) ∷ [])
+      (r ∙ ap (λ (x : ℕ). join x 0) q)

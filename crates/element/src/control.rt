@@ -3,6 +3,7 @@ use crate::layout::Layout;
 use crate::settings::Settings;
 use crate::types::Kind;
 ghost use mathlib.Core.Path.{_≡_};
+ghost use Rattle.element.specs.Layouts.{unnamed};
 ghost use Rattle.element.specs.Control.{selected, controlOf, reservedIn, offending, speedAfter, acted};
 
 // SELECT, and the settings that are requested, RST SWAP in the place of SWAP.
@@ -79,7 +80,15 @@ impl Control {
 fn reserved(kind: Kind, e: [u8; 4]) -> u8
     ensures { λ r. ⌜ r ≡ reservedIn kind e ⌝ }
 {
-    let layout = Layout::of(kind);
+    match kind {
+        Kind::Cooling => unnamed(Layout::FAN, e),
+        Kind::Temperature | Kind::Voltage | Kind::Current => unnamed(Layout::SENSOR, e),
+    }
+}
+
+fn unnamed(layout: Layout, e: [u8; 4]) -> u8
+    ensures { λ r. ⌜ r ≡ unnamed layout e ⌝ }
+{
     bits::first_of(
         e[0] & 0xf0 == e[0],
         e[1] & layout.flags1 == e[1],

@@ -1,7 +1,4 @@
 // Which bits of a control element a type names, beside those that all types have in byte 0.
-use crate::types::Kind;
-ghost use mathlib.Core.Path.{_≡_};
-ghost use Rattle.element.specs.Types.{layoutOf};
 
 // The flags in bytes 1 to 3, and the speed code in byte 3.
 pub struct Layout {
@@ -13,7 +10,7 @@ pub struct Layout {
 
 impl Layout {
     // IDENT; FAIL and ON; SPEED.
-    const FAN: Layout = Layout {
+    pub const FAN: Layout = Layout {
         flags1: 0x80,
         flags2: 0,
         flags3: 0x60,
@@ -21,19 +18,10 @@ impl Layout {
     };
 
     // IDENT and FAIL.
-    const SENSOR: Layout = Layout {
+    pub const SENSOR: Layout = Layout {
         flags1: 0xc0,
         flags2: 0,
         flags3: 0,
         speed: 0,
     };
-
-    pub fn of(kind: Kind) -> Layout
-        ensures { λ r. ⌜ r ≡ layoutOf kind ⌝ }
-    {
-        match kind {
-            Kind::Cooling => Layout::FAN,
-            Kind::Temperature | Kind::Voltage | Kind::Current => Layout::SENSOR,
-        }
-    }
 }

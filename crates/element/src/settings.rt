@@ -2,6 +2,7 @@
 use crate::layout::Layout;
 use crate::types::Kind;
 ghost use mathlib.Core.Path.{_≡_};
+ghost use Rattle.element.specs.Layouts.{said, stored, formed};
 ghost use Rattle.element.specs.Settings.{settingsOf, settingsBytes, settingsFormed};
 
 // PRDFAIL, DISABLED and SWAP, which all types have; the type's own flags, where bytes 1 to 3 of its control element have them; SPEED.
@@ -19,39 +20,61 @@ impl Settings {
     pub fn of(kind: Kind, e: [u8; 4]) -> Settings
         ensures { λ r. ⌜ r ≡ settingsOf kind e ⌝ }
     {
-        let layout = Layout::of(kind);
-        Settings {
-            prdfail: e[0] >> 6 & 1 == 1,
-            disabled: e[0] >> 5 & 1 == 1,
-            swap: e[0] >> 4 & 1 == 1,
-            flags1: e[1] & layout.flags1,
-            flags2: e[2] & layout.flags2,
-            flags3: e[3] & layout.flags3,
-            speed: e[3] & layout.speed,
+        match kind {
+            Kind::Cooling => said(Layout::FAN, e),
+            Kind::Temperature | Kind::Voltage | Kind::Current => said(Layout::SENSOR, e),
         }
     }
 
     pub fn bytes(self, kind: Kind) -> [u8; 4]
         ensures { λ r. ⌜ r ≡ settingsBytes kind self ⌝ }
     {
-        let layout = Layout::of(kind);
-        [
-            bits::join(
-                bits::nibble(false, self.prdfail, self.disabled, self.swap),
-                0,
-            ),
-            self.flags1 & layout.flags1,
-            self.flags2 & layout.flags2,
-            self.flags3 & layout.flags3 | self.speed & layout.speed,
-        ]
+        match kind {
+            Kind::Cooling => stored(Layout::FAN, self),
+            Kind::Temperature | Kind::Voltage | Kind::Current => stored(Layout::SENSOR, self),
+        }
     }
 }
 
-// The four bytes are settings that the type may have. SPEED is not 0 where there is one.
+fn said(layout: Layout, e: [u8; 4]) -> Settings
+    ensures { λ r. ⌜ r ≡ said layout e ⌝ }
+{
+    Settings {
+        prdfail: e[0] >> 6 & 1 == 1,
+        disabled: e[0] >> 5 & 1 == 1,
+        swap: e[0] >> 4 & 1 == 1,
+        flags1: e[1] & layout.flags1,
+        flags2: e[2] & layout.flags2,
+        flags3: e[3] & layout.flags3,
+        speed: e[3] & layout.speed,
+    }
+}
+
+fn stored(layout: Layout, s: Settings) -> [u8; 4]
+    ensures { λ r. ⌜ r ≡ stored layout s ⌝ }
+{
+    [
+        bits::join(bits::nibble(false, s.prdfail, s.disabled, s.swap), 0),
+        s.flags1 & layout.flags1,
+        s.flags2 & layout.flags2,
+        s.flags3 & layout.flags3 | s.speed & layout.speed,
+    ]
+}
+
+// The four bytes are settings that the type may have.
 pub fn are_formed(kind: Kind, e: [u8; 4]) -> bool
     ensures { λ r. ⌜ r ≡ settingsFormed kind e ⌝ }
 {
-    let layout = Layout::of(kind);
+    match kind {
+        Kind::Cooling => formed(Layout::FAN, e),
+        Kind::Temperature | Kind::Voltage | Kind::Current => formed(Layout::SENSOR, e),
+    }
+}
+
+// SPEED is not 0 where there is one.
+fn formed(layout: Layout, e: [u8; 4]) -> bool
+    ensures { λ r. ⌜ r ≡ formed layout e ⌝ }
+{
     (e[0] & 0x70 == e[0])
         & (e[1] & layout.flags1 == e[1])
         & (e[2] & layout.flags2 == e[2])

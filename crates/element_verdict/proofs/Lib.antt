@@ -1,1 +1,2 @@
 pub mod SignedLimits
+pub mod StoredOn

@@ -1,18 +1,20 @@
 // What follows from a reading: the status code and the four limit bits.
-use element::settings::Settings;
 use element::types::Kind;
 use element::verdict::Verdict;
 ghost use mathlib.Core.Path.{_≡_};
 ghost use Prim.Native.Nat.{_+_, _%_};
 ghost use Rattle.element.specs.Verdict.{codeFor, unlimited, judged, above, below, over, under, fanVerdict, temperatureVerdict, voltageVerdict, currentVerdict};
+ghost use Rattle.element.specs.declared.types.Kind.the-variants.{Cooling};
 ghost use Rattle.element.specs.Cooling.{isOn};
+ghost use Rattle.element.specs.Settings.{settingsOf};
 ghost use Rattle.element.specs.Types.{verdictOf};
 
-pub fn of(kind: Kind, set: Settings, reading: u16, nominal: u16, t: [u8; 4]) -> Verdict
-    ensures { λ r. ⌜ r ≡ verdictOf kind set reading nominal t ⌝ }
+// Of an element with these stored settings.
+pub fn of(kind: Kind, stored: [u8; 4], reading: u16, nominal: u16, t: [u8; 4]) -> Verdict
+    ensures { λ r. ⌜ r ≡ verdictOf kind (settingsOf kind stored) reading nominal t ⌝ }
 {
     match kind {
-        Kind::Cooling => of_fan(set, reading),
+        Kind::Cooling => of_fan(stored, reading),
         Kind::Temperature => of_temperature(reading, t),
         Kind::Voltage => of_voltage(reading, nominal, t),
         Kind::Current => of_current(reading, nominal, t),
@@ -91,10 +93,10 @@ fn under(reading: u16, nominal: u16, limit: u8) -> bool
 }
 
 // Byte 3 bit 5 is ON.
-fn of_fan(set: Settings, reading: u16) -> Verdict
-    ensures { λ r. ⌜ r ≡ fanVerdict (isOn set) reading ⌝ }
+fn of_fan(stored: [u8; 4], reading: u16) -> Verdict
+    ensures { λ r. ⌜ r ≡ fanVerdict (isOn (settingsOf Cooling stored)) reading ⌝ }
 {
-    let on = set.flags3 >> 5 & 1 == 1;
+    let on = stored[3] >> 5 & 1 == 1;
     unlimited(code_for(on & (reading == 0), false))
 }
 

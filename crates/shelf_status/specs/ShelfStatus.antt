@@ -6,6 +6,7 @@ use lib.Dec.{eqb}
 use Rattle.bits.specs.Choice.{pick}
 use Rattle.bits.specs.Bits.{nibble}
 use Rattle.element.specs.declared.types.Kind.{Kind}
+use Rattle.element.specs.declared.verdict.Verdict.{Verdict}
 use Rattle.element.specs.Settings.{settingsOf}
 use Rattle.element.specs.Types.{verdictOf}
 use Rattle.element.specs.Status.{shownBy, codeAlone}
@@ -15,12 +16,15 @@ use Rattle.page.specs.declared.slots.Slot.{Slot}
 use Rattle.page.specs.Slots.{slotAt}
 use Rattle.shelf_status.specs.declared.PageBits.{PageBits}
 
--- element j, of kind k: the entry that says what it shows, and its code
-unfoldable pub shownAt : List ℕ → Kind → ℕ → List ℕ
-shownAt s k j = shownBy k (settingsOf k (settingsAt s j)) (readingAt s j) (nominalAt s j) (thresholdsAt s j)
+-- element j, of kind k: what follows from what is stored of it, its code, and the entry that says what it shows
+unfoldable pub verdictAt : List ℕ → Kind → ℕ → Verdict
+verdictAt s k j = verdictOf k (settingsOf k (settingsAt s j)) (readingAt s j) (nominalAt s j) (thresholdsAt s j)
 
 unfoldable pub codeAt : List ℕ → Kind → ℕ → ℕ
-codeAt s k j = verdictOf k (settingsOf k (settingsAt s j)) (readingAt s j) (nominalAt s j) (thresholdsAt s j) .code
+codeAt s k j = verdictAt s k j .code
+
+unfoldable pub shownAt : List ℕ → Kind → ℕ → List ℕ
+shownAt s k j = shownBy k (settingsOf k (settingsAt s j)) (readingAt s j) (nominalAt s j) (thresholdsAt s j)
 
 -- the test f passes at some number below n
 abbrev pub anyBelow : (ℕ → Bool) → ℕ → Bool

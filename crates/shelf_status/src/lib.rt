@@ -9,12 +9,10 @@ ghost use mathlib.Core.Path.{_≡_};
 ghost use mathlib.Core.Bool.{true};
 ghost use Prim.Native.Nat.{_≤_};
 ghost use lib.ListN.{length};
-ghost use Rattle.element.specs.Types.{verdictOf};
 ghost use Rattle.element.specs.Status.{statusBytes};
 ghost use Rattle.shelf.specs.Limits.{elementPlace, HasElement};
-ghost use Rattle.shelf.specs.Elements.{readingAt, nominalAt, thresholdsAt};
 ghost use Rattle.shelf_formed.specs.Formed.{wellFormed};
-ghost use Rattle.shelf_status.specs.ShelfStatus.{shownAt, codeAt, worse, worst, pageBits, bitsByte};
+ghost use Rattle.shelf_status.specs.ShelfStatus.{verdictAt, shownAt, codeAt, worse, worst, pageBits, bitsByte};
 
 // The two bits of a status page that tell of all its elements.
 pub struct PageBits {
@@ -56,15 +54,16 @@ impl PageBits {
 }
 
 // What follows from what is stored of element j.
-fn verdict_at(shelf: &[u8], kind: Kind, set: Settings, j: u16) -> Verdict
+fn verdict_at(shelf: &[u8], kind: Kind, j: u16) -> Verdict
     requires { ⌜ HasElement (now shelf) j ⌝ }
-    ensures { λ r. ⌜ r ≡ verdictOf kind set (readingAt (now (shelf .entry)) j) (nominalAt (now (shelf .entry)) j) (thresholdsAt (now (shelf .entry)) j) ⌝ }
+    ensures { λ r. ⌜ r ≡ verdictAt (now (shelf .entry)) kind j ⌝ }
 {
+    let stored = elements::settings_at(shelf, j);
     let reading = elements::reading_at(shelf, j);
     let nominal = elements::nominal_at(shelf, j);
     verdict::of(
         kind,
-        set,
+        stored,
         reading,
         nominal,
         elements::thresholds_at(shelf, j),
@@ -77,7 +76,7 @@ pub fn status_at(shelf: &[u8], kind: Kind, j: u16) -> [u8; 4]
     ensures { λ r. ⌜ r ≡ statusBytes kind (shownAt (now (shelf .entry)) kind j) ⌝ }
 {
     let set = Settings::of(kind, elements::settings_at(shelf, j));
-    let verdict = verdict_at(shelf, kind, set, j);
+    let verdict = verdict_at(shelf, kind, j);
     element_status::status(kind, set, verdict, elements::reading_at(shelf, j))
 }
 
@@ -86,8 +85,7 @@ fn code_at(shelf: &[u8], kind: Kind, j: u16) -> u8
     requires { ⌜ HasElement (now shelf) j ⌝ }
     ensures { λ r. ⌜ r ≡ codeAt (now (shelf .entry)) kind j ⌝ }
 {
-    let set = Settings::of(kind, elements::settings_at(shelf, j));
-    let verdict = verdict_at(shelf, kind, set, j);
+    let verdict = verdict_at(shelf, kind, j);
     verdict.code
 }
 

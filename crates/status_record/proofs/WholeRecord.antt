@@ -7,12 +7,12 @@ use native.Mathlib.Omega.{arith}
 use lib.Dec.{leb}
 use lib.ListN.{length, drop, length-append, getD}
 use lib.Seq.{getD-append-add, take-all}
-use Rattle.bits.specs.Places.{fourAt, putFour}
+use Rattle.bits.specs.Places.{fourAt}
 use Rattle.bits.specs.Rows.{joined}
 use Rattle.bits.specs.Bits.{num}
 use Rattle.bits.proofs.Logic.{and-both}
 use Rattle.bits.proofs.Widths.{big-bytes}
-use Rattle.bits.proofs.Rows.{length-joined, put-next, joined-get, fours}
+use Rattle.bits.proofs.Rows.{length-joined, put-next, bytes-next, joined-get, fours}
 use Rattle.shelf_status.specs.declared.PageBits.{PageBits}
 use Rattle.status_record.specs.Entries.{recordWith, entryPlace, sixteenAt, entryPut, headRow, headPut, entriesPut, entriesIn, flag, bitsFormed, entryAt, bitsAt}
 
@@ -23,29 +23,7 @@ as-sixteen x e = sym (take-all 16 x (omega (arith, e))) ∙ fours x 0 4 (omega (
 entry-behind : (p r : List ℕ) (i : ℕ) (x : List ℕ) → length p ≡ entryPlace i → entryPlace i + 16 ≤ length r → length x ≡ 16
     → entryPut (p ++ drop (entryPlace i) r) i x ≡ p ++ x ++ drop (entryPlace i + 16) r
 unfolding entryPut
-entry-behind p r i x e l g =
-    let k = entryPlace i in
-    let k8 : k + 4 + 4 ≡ k + 8 = omega arith in
-    let k12 : k + 8 + 4 ≡ k + 12 = omega arith in
-    let k16 : k + 12 + 4 ≡ k + 16 = omega arith in
-    let p1 = p ++ fourAt x 0 in
-    let p2 = p1 ++ fourAt x 4 in
-    let p3 = p2 ++ fourAt x 8 in
-    let e1 : length p1 ≡ k + 4 = length-append p (fourAt x 0) ∙ rw e in
-    let e2 : length p2 ≡ k + 8 = length-append p1 (fourAt x 4) ∙ rw e1 k8 in
-    let e3 : length p3 ≡ k + 12 = length-append p2 (fourAt x 8) ∙ rw e2 k12 in
-    let s0 = put-next p r k (getD x 0 0) (getD x 1 0) (getD x 2 0) (getD x 3 0) e (omega arith) in
-    let s1 = put-next p1 r (k + 4) (getD x 4 0) (getD x 5 0) (getD x 6 0) (getD x 7 0) e1 (omega arith) in
-    let s2 = put-next p2 r (k + 8) (getD x 8 0) (getD x 9 0) (getD x 10 0) (getD x 11 0) e2 (omega arith) in
-    let s3 = put-next p3 r (k + 12) (getD x 12 0) (getD x 13 0) (getD x 14 0) (getD x 15 0) e3 (omega arith) in
-    ap (λ (o : List ℕ). putFour (putFour (putFour o (k + 4) (fourAt x 4)) (k + 8) (fourAt x 8)) (k + 12) (fourAt x 12)) s0
-    ∙ ap (λ (o : List ℕ). putFour (putFour o (k + 8) (fourAt x 8)) (k + 12) (fourAt x 12)) (s1 ∙ ap (λ (j : ℕ). p2 ++ drop j r) k8)
-    ∙ ap (λ (o : List ℕ). putFour o (k + 12) (fourAt x 12)) (s2 ∙ ap (λ (j : ℕ). p3 ++ drop j r) k12)
-    ∙ s3
-    ∙ ap (λ (j : ℕ). p3 ++ fourAt x 12 ++ drop j r) k16
-    ∙ ap (λ (o : List ℕ). o ++ fourAt x 12 ++ drop (k + 16) r) (ap (λ (o : List ℕ). o ++ fourAt x 8) (append-assoc p (fourAt x 0) (fourAt x 4)) ∙ append-assoc p (fourAt x 0 ++ fourAt x 4) (fourAt x 8))
-    ∙ ap (λ (o : List ℕ). o ++ drop (k + 16) r) (append-assoc p (fourAt x 0 ++ fourAt x 4 ++ fourAt x 8) (fourAt x 12))
-    ∙ ap (λ (o : List ℕ). p ++ o ++ drop (k + 16) r) (sym (as-sixteen x g))
+entry-behind p r i x e l g = bytes-next p r x (entryPlace i) e (rw g l) ∙ ap (λ (n : ℕ). p ++ x ++ drop (entryPlace i + n) r) g
 
 module _ (f : ℕ → List ℕ) (hf : (i : ℕ) → length (f i) ≡ 16) (b : PageBits) where
   entries-behind : (p r : List ℕ) (n : ℕ) → length p ≡ 4 → entryPlace n ≤ length r

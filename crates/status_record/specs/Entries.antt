@@ -6,7 +6,7 @@ use lib.Dec.{eqb, leb}
 use lib.ListN.{length, getD}
 use Rattle.bits.specs.Bits.{num}
 use Rattle.bits.specs.Numbers.{big, bytes}
-use Rattle.bits.specs.Rows.{joined}
+use Rattle.bits.specs.Rows.{joined, putBytes}
 use Rattle.bits.specs.Places.{twoAt, fourAt, putFour}
 use Rattle.shelf_status.specs.declared.PageBits.{PageBits}
 
@@ -25,9 +25,7 @@ unfoldable pub entryAt : List ℕ → ℕ → List ℕ
 entryAt r i = sixteenAt r (entryPlace i)
 
 unfoldable pub entryPut : List ℕ → ℕ → List ℕ → List ℕ
-entryPut r i x =
-    let k : ℕ = entryPlace i in
-    putFour (putFour (putFour (putFour r k (fourAt x 0)) (k + 4) (fourAt x 4)) (k + 8) (fourAt x 8)) (k + 12) (fourAt x 12)
+entryPut r i x = putBytes r (entryPlace i) x
 
 -- the page bits and the number of entries
 abbrev pub headRow : PageBits → ℕ → List ℕ

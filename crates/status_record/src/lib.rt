@@ -20,11 +20,7 @@ pub fn put_entry(fields: &mut [u8], i: u16, x: [u8; element_status::ENTRY])
     requires { ⌜ HasEntry (now fields) i ⌝ }
     ensures { λ _. ⌜ now (fields .exit) ≡ entryPut (now (fields .entry)) i x ⌝ }
 {
-    let k = entry_place(i);
-    bits::put_four(fields, k, [x[0], x[1], x[2], x[3]]);
-    bits::put_four(fields, k + 4, [x[4], x[5], x[6], x[7]]);
-    bits::put_four(fields, k + 8, [x[8], x[9], x[10], x[11]]);
-    bits::put_four(fields, k + 12, [x[12], x[13], x[14], x[15]]);
+    bits::copy(&x, 0, fields, entry_place(i), element_status::ENTRY as u32);
 }
 
 pub fn entry_at(fields: &[u8], i: u16) -> [u8; element_status::ENTRY]

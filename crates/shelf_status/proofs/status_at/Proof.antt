@@ -1,7 +1,7 @@
 -- `shelf_status::status_at` meets its contract. Assumes nothing.
 use mathlib.Core.Path.{_∙_}
 use Rattle.element.specs.Status.{shownBy}
-use Rattle.shelf_status.specs.ShelfStatus.{shownAt}
+use Rattle.shelf_status.specs.ShelfStatus.{verdictAt, shownAt}
 use borrow.Author.Needs.{needs}
 use Rattle.shelf_status.proofs.status_at.Statement.{statement}
 use Rattle.shelf_status.proofs.status_at.Tie as tie
@@ -22,7 +22,7 @@ status-requires : tie.Need-status-requires
 status-requires c κs = search needs
 
 returns : tie.Need-returns
-unfolding shownAt shownBy
+unfolding shownAt shownBy verdictAt
 returns c = c .status .ensures ∙ rw (c .before .before .verdict-at .ensures, c .before .before .before .of .ensures, c .before .before .before .before .settings-at .ensures, c .before .reading-at .ensures)
 
 pub status-at-spec : {M : Type 1} → statement M

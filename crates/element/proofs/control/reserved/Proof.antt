@@ -1,56 +1,29 @@
 -- `element::control::reserved` meets its contract. Assumes nothing.
-use mathlib.Core.Path.{_∙_}
-use Rattle.element.proofs.Calls.{unnamed-is}
-use Rattle.element.proofs.StoredSettings.{reserved-unnamed}
+use mathlib.Core.Path.{_≡_}
+use mathlib.Core.List.{[], _∷_}
+use Rattle.element.specs.Control.{reservedIn}
+use Rattle.element.proofs.TypeArms.{arms}
 use borrow.Author.Needs.{needs}
 use Rattle.element.proofs.control.reserved.Statement.{statement}
 use Rattle.element.proofs.control.reserved.Tie as tie
 
-of-requires : tie.Need-of-requires
-of-requires c κs = search needs
+enum-told : tie.Need-enum-told
+enum-told c = search needs
 
-array-read-first-of : tie.Need-array-read-first-of
-array-read-first-of c = search needs
+unnamed-requires : tie.Need-unnamed-requires
+unnamed-requires c κs = search needs
 
-array-read-first-of-2 : tie.Need-array-read-first-of-2
-array-read-first-of-2 c = search needs
-
-array-read-first-of-3 : tie.Need-array-read-first-of-3
-array-read-first-of-3 c = search needs
-
-array-read-first-of-4 : tie.Need-array-read-first-of-4
-array-read-first-of-4 c = search needs
-
-array-read-first-of-5 : tie.Need-array-read-first-of-5
-array-read-first-of-5 c = search needs
-
-array-read-first-of-6 : tie.Need-array-read-first-of-6
-array-read-first-of-6 c = search needs
-
-array-read-first-of-7 : tie.Need-array-read-first-of-7
-array-read-first-of-7 c = search needs
-
-array-read-first-of-8 : tie.Need-array-read-first-of-8
-array-read-first-of-8 c = search needs
-
-first-of-requires : tie.Need-first-of-requires
-first-of-requires c κs = search needs
+unnamed-requires-2 : tie.Need-unnamed-requires-2
+unnamed-requires-2 c κs = search needs
 
 returns : tie.Need-returns
-returns c = let s = c .before .before .before .before .before .args in c .first-of .ensures ∙ unnamed-is (s .kind) (c .before .before .before .before .of .ensures) (s .t2) ∙ reserved-unnamed (s .kind) (s .t2)
+unfolding reservedIn
+returns c = rw (c .before .enum-told .given .1) (c .unnamed .ensures)
+
+returns-2 : tie.Need-returns-2
+unfolding reservedIn
+returns-2 c = let s = c .before .before .args in let e = c .unnamed2 .ensures in arms (1 ∷ 2 ∷ 3 ∷ []) (λ k. c .unnamed2 .result ≡ reservedIn k (s .e)) tt e e e (s .kind) (c .before .match .keys2)
 
 pub reserved-spec : {M : Type 1} → statement M
 reserved-spec =
-    tie.close
-    (tie.spec
-    of-requires
-    array-read-first-of
-    array-read-first-of-2
-    array-read-first-of-3
-    array-read-first-of-4
-    array-read-first-of-5
-    array-read-first-of-6
-    array-read-first-of-7
-    array-read-first-of-8
-    first-of-requires
-    returns)
+    tie.close (tie.spec enum-told unnamed-requires unnamed-requires-2 returns returns-2)

@@ -1,20 +1,29 @@
 -- `element::settings::Settings::bytes` meets its contract. Assumes nothing.
-use Rattle.element.proofs.Calls.{stored-is}
+use mathlib.Core.Path.{_≡_}
+use mathlib.Core.List.{[], _∷_}
+use Rattle.element.specs.Types.{layoutOf}
+use Rattle.element.specs.Settings.{settingsBytes}
+use Rattle.element.proofs.TypeArms.{arms}
 use borrow.Author.Needs.{needs}
 use Rattle.element.proofs.settings.Settings.bytes.Statement.{statement}
 use Rattle.element.proofs.settings.Settings.bytes.Tie as tie
 
-of-requires : tie.Need-of-requires
-of-requires c κs = search needs
+enum-told : tie.Need-enum-told
+enum-told c = search needs
 
-nibble-requires : tie.Need-nibble-requires
-nibble-requires c κs = search needs
+stored-requires : tie.Need-stored-requires
+stored-requires c κs = search needs
 
-join-requires : tie.Need-join-requires
-join-requires c κs = search needs
+stored-requires-2 : tie.Need-stored-requires-2
+stored-requires-2 c κs = search needs
 
 returns : tie.Need-returns
-returns c = stored-is (c .before .before .before .before .before .before .before .before .before .before .before .args .kind) (c .before .before .before .before .before .before .before .before .before .before .of .ensures) (c .before .before .before .before .before .before .before .before .before .before .before .args .self) (c .before .before .before .before .before .before .before .before .before .nibble .ensures) (c .before .before .before .before .before .before .before .before .join .ensures)
+unfolding settingsBytes layoutOf
+returns c = rw (c .before .enum-told .given .1) (c .stored .ensures)
+
+returns-2 : tie.Need-returns-2
+unfolding settingsBytes layoutOf
+returns-2 c = let s = c .before .before .args in let e = c .stored2 .ensures in arms (1 ∷ 2 ∷ 3 ∷ []) (λ k. c .stored2 .result ≡ settingsBytes k (s .self)) tt e e e (s .kind) (c .before .match .keys2)
 
 pub bytes-spec : {M : Type 1} → statement M
-bytes-spec = tie.close (tie.spec of-requires nibble-requires join-requires returns)
+bytes-spec = tie.close (tie.spec enum-told stored-requires stored-requires-2 returns returns-2)

@@ -1,46 +1,29 @@
 -- `element::settings::Settings::of` meets its contract. Assumes nothing.
-use Rattle.element.proofs.Calls.{said-is}
+use mathlib.Core.Path.{_≡_}
+use mathlib.Core.List.{[], _∷_}
+use Rattle.element.specs.Types.{layoutOf}
+use Rattle.element.specs.Settings.{settingsOf}
+use Rattle.element.proofs.TypeArms.{arms}
 use borrow.Author.Needs.{needs}
 use Rattle.element.proofs.settings.Settings.of.Statement.{statement}
 use Rattle.element.proofs.settings.Settings.of.Tie as tie
 
-of-requires : tie.Need-of-requires
-of-requires c κs = search needs
+enum-told : tie.Need-enum-told
+enum-told c = search needs
 
-array-read-t7 : tie.Need-array-read-t7
-array-read-t7 c = search needs
+said-requires : tie.Need-said-requires
+said-requires c κs = search needs
 
-array-read-t13 : tie.Need-array-read-t13
-array-read-t13 c = search needs
-
-array-read-t19 : tie.Need-array-read-t19
-array-read-t19 c = search needs
-
-array-read-t25 : tie.Need-array-read-t25
-array-read-t25 c = search needs
-
-array-read-t29 : tie.Need-array-read-t29
-array-read-t29 c = search needs
-
-array-read-t33 : tie.Need-array-read-t33
-array-read-t33 c = search needs
-
-array-read-t37 : tie.Need-array-read-t37
-array-read-t37 c = search needs
+said-requires-2 : tie.Need-said-requires-2
+said-requires-2 c κs = search needs
 
 returns : tie.Need-returns
-returns c = said-is (c .before .before .before .before .before .args .kind) (c .before .before .before .before .of .ensures) (c .before .before .before .before .before .args .t2)
+unfolding settingsOf layoutOf
+returns c = rw (c .before .enum-told .given .1) (c .said .ensures)
+
+returns-2 : tie.Need-returns-2
+unfolding settingsOf layoutOf
+returns-2 c = let s = c .before .before .args in let e = c .said2 .ensures in arms (1 ∷ 2 ∷ 3 ∷ []) (λ k. c .said2 .result ≡ settingsOf k (s .e)) tt e e e (s .kind) (c .before .match .keys2)
 
 pub of-spec : {M : Type 1} → statement M
-of-spec =
-    tie.close
-    (tie.spec
-    of-requires
-    array-read-t7
-    array-read-t13
-    array-read-t19
-    array-read-t25
-    array-read-t29
-    array-read-t33
-    array-read-t37
-    returns)
+of-spec = tie.close (tie.spec enum-told said-requires said-requires-2 returns returns-2)

@@ -1,8 +1,7 @@
-//! The rules for one element: control, thresholds, verdict and status.
+//! The rules for one element: control, thresholds and verdict.
 
 use crate::bits::{bit, flag};
 use crate::record::{Element, FanSettings, Kind, Settings, Thresholds};
-use crate::shown::Shown;
 
 /// A selected control element has a reserved bit set: refusal 6.
 #[derive(Clone, Copy, Debug, PartialEq, Eq)]
@@ -173,26 +172,6 @@ impl Thresholds {
             ),
         }
     }
-
-    /// None is set that the type does not have.
-    pub fn had_by(&self, kind: Kind) -> bool {
-        match kind {
-            Kind::Cooling => *self == Thresholds::default(),
-            Kind::Temperature | Kind::Voltage => true,
-            Kind::Current => self.low_warning == 0 && self.low_critical == 0,
-        }
-    }
-
-    pub fn keep_order(&self, kind: Kind) -> bool {
-        let at_least = |above: u8, below: u8| above == 0 || below == 0 || above >= below;
-        let high = at_least(self.high_critical, self.high_warning);
-        let low = match kind {
-            Kind::Temperature => at_least(self.low_warning, self.low_critical),
-            Kind::Voltage => at_least(self.low_critical, self.low_warning),
-            Kind::Cooling | Kind::Current => true,
-        };
-        high && low
-    }
 }
 
 #[derive(Clone, Copy, Debug, PartialEq, Eq)]
@@ -266,55 +245,6 @@ impl Element {
                 ..
             } => current_limits(thresholds, reading.into(), nominal.into()).verdict(),
         }
-    }
-
-    /// What the status page shows of this element.
-    pub fn shown(&self) -> Shown {
-        let Verdict { code, limits } = self.verdict();
-        let code = code.number();
-        match *self {
-            Element::Cooling {
-                settings, reading, ..
-            } => Shown::Cooling {
-                code,
-                settings: settings.common,
-                on: settings.on,
-                off: !settings.on,
-                speed: settings.speed,
-                reading,
-            },
-            Element::Temperature {
-                settings, reading, ..
-            } => {
-                let [_, reading] = reading.to_be_bytes();
-                Shown::Temperature {
-                    code,
-                    settings,
-                    reading,
-                    limits,
-                }
-            }
-            Element::Voltage {
-                settings, reading, ..
-            } => Shown::Voltage {
-                code,
-                settings,
-                reading,
-                limits,
-            },
-            Element::Current {
-                settings, reading, ..
-            } => Shown::Current {
-                code,
-                settings,
-                reading,
-                limits,
-            },
-        }
-    }
-
-    pub fn status(&self) -> [u8; 4] {
-        self.shown().element()
     }
 }
 

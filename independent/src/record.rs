@@ -548,6 +548,26 @@ impl Thresholds {
             low_critical,
         }
     }
+
+    /// None is set that the type does not have.
+    pub fn had_by(&self, kind: Kind) -> bool {
+        match kind {
+            Kind::Cooling => *self == Thresholds::default(),
+            Kind::Temperature | Kind::Voltage => true,
+            Kind::Current => self.low_warning == 0 && self.low_critical == 0,
+        }
+    }
+
+    pub fn keep_order(&self, kind: Kind) -> bool {
+        let at_least = |above: u8, below: u8| above == 0 || below == 0 || above >= below;
+        let high = at_least(self.high_critical, self.high_warning);
+        let low = match kind {
+            Kind::Temperature => at_least(self.low_warning, self.low_critical),
+            Kind::Voltage => at_least(self.low_critical, self.low_warning),
+            Kind::Cooling | Kind::Current => true,
+        };
+        high && low
+    }
 }
 
 /// Bytes taken from the front, none once they run out.

@@ -1,8 +1,8 @@
 //! One element of the status page by its fields, as its four bytes and as a record's entry.
 
 use crate::bits::{bit, flag};
-use crate::element::Limits;
-use crate::record::{Configuration, Kind, Settings};
+use crate::element::{Limits, Verdict};
+use crate::record::{Configuration, Element, Kind, Settings};
 use std::iter::{once, repeat};
 
 const SPARE_BYTE: usize = 9;
@@ -56,6 +56,57 @@ pub enum Shown {
         reading: i16,
         limits: Limits,
     },
+}
+
+impl Element {
+    /// What the status page shows of this element.
+    pub fn shown(&self) -> Shown {
+        let Verdict { code, limits } = self.verdict();
+        let code = code.number();
+        match *self {
+            Element::Cooling {
+                settings, reading, ..
+            } => Shown::Cooling {
+                code,
+                settings: settings.common,
+                on: settings.on,
+                off: !settings.on,
+                speed: settings.speed,
+                reading,
+            },
+            Element::Temperature {
+                settings, reading, ..
+            } => {
+                let [_, reading] = reading.to_be_bytes();
+                Shown::Temperature {
+                    code,
+                    settings,
+                    reading,
+                    limits,
+                }
+            }
+            Element::Voltage {
+                settings, reading, ..
+            } => Shown::Voltage {
+                code,
+                settings,
+                reading,
+                limits,
+            },
+            Element::Current {
+                settings, reading, ..
+            } => Shown::Current {
+                code,
+                settings,
+                reading,
+                limits,
+            },
+        }
+    }
+
+    pub fn status(&self) -> [u8; 4] {
+        self.shown().element()
+    }
 }
 
 impl Shown {

@@ -1,6 +1,6 @@
 //! Compares the twelve calls on pages with the library's.
 
-use super::cases::{self, Case};
+use super::cases::{self, case::Case};
 use super::coverage::Coverage;
 use crate::library::{request, Library};
 use crate::rng::Rng;

@@ -2,7 +2,7 @@
 
 use super::builder;
 use super::calls::{self, Answer, APPLY_CONTROL, APPLY_THRESHOLDS, BUILD_CONTROL, WRITE_STATUS};
-use super::cases::Case;
+use super::cases::case::Case;
 use super::status::Status;
 use super::{ElementPage, TypeElements};
 use crate::bits::{bit, flag};

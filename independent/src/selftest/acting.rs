@@ -1,8 +1,9 @@
 //! The paper's numbers for pages that act, examples worked out from its rules, and laws that follow from them.
 
-use super::{
+use super::checks::Checks;
+use super::examples::{
     block_a, current, fan, fan_with, fans_a, group, plain, shelf_a, shelf_a_of, temperature, with,
-    Checks,
+    IDENT, NOISE, RST_SWAP, SPEED_5, SWAP, UNSELECTED,
 };
 use crate::cases::{self, ELEMENTS_AT, ELEMENT_BYTES};
 use crate::pages::calls::{apply_control, apply_thresholds, write_status, Answer};
@@ -13,23 +14,9 @@ use crate::rng::Rng;
 const SEED: u64 = 0xAC7;
 const ROUNDS: usize = 500;
 
-pub(super) const UNSELECTED: [u8; 4] = [0; 4];
-pub(super) const SPEED_5: [u8; 4] = [0x80, 0x00, 0x00, 0x25];
-pub(super) const IDENT: [u8; 4] = [0x80, 0x80, 0x00, 0x20];
-pub(super) const RST_SWAP: [u8; 4] = [0x90, 0x00, 0x00, 0x20];
 const SELECTED: [u8; 4] = [0x80, 0x00, 0x00, 0x00];
-/// Every bit but SELECT.
-pub(super) const NOISE: [u8; 4] = [0x7F, 0xFF, 0xFF, 0xFF];
 
-pub(super) const SWAP: Settings = Settings {
-    prdfail: false,
-    disabled: false,
-    swap: true,
-    ident: false,
-    fail: false,
-};
-
-pub(super) fn check(checks: &mut Checks) {
+pub fn check(checks: &mut Checks) {
     fans_a_acting(checks);
     headers_for_a(checks);
     choosing(checks);

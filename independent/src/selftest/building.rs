@@ -1,8 +1,11 @@
 //! The paper's pages for its wishes, examples worked out from its rules, and every page of small shelves held
 //! against the one built.
 
-use super::acting::{IDENT, NOISE, RST_SWAP, SPEED_5, SWAP, UNSELECTED};
-use super::{block_a, fan, fan_with, fans_a, group, plain, shelf_a, shelf_a_of, with, Checks};
+use super::checks::Checks;
+use super::examples::{
+    block_a, fan, fan_with, fans_a, group, plain, shelf_a, shelf_a_of, with, BEFORE, IDENT, NOISE,
+    RST_SWAP, SPEED_5, SWAP, UNSELECTED,
+};
 use crate::cases::{self, ELEMENTS_AT, ELEMENT_BYTES};
 use crate::element::Request;
 use crate::pages::calls::{apply_control, build_control, Answer};
@@ -14,10 +17,8 @@ use std::collections::BTreeMap;
 
 const SEED: u64 = 0xB01D;
 const ROUNDS: usize = 300;
-/// Memory before a call.
-const BEFORE: u8 = 0xA5;
 
-pub(super) fn check(checks: &mut Checks) {
+pub fn check(checks: &mut Checks) {
     fans_a_wished(checks);
     order_of_refusals(checks);
     records_of_types(checks);

@@ -1,8 +1,9 @@
 //! The paper's numbers for whole pages.
 
-use super::{
+use super::checks::Checks;
+use super::examples::{
     block_a, current, fan, fan_at, fan_like, fans_a, group, high_critical, high_warning,
-    low_critical, plain, shelf_a, shelf_a_of, temperature, voltage, with, Checks,
+    low_critical, plain, shelf_a, shelf_a_of, temperature, voltage, with, BEFORE,
 };
 use crate::pages::calls::{
     read_configuration, read_status, read_thresholds, rewrite_configuration, rewrite_status,
@@ -10,9 +11,6 @@ use crate::pages::calls::{
     CONFIGURATION_BYTES, STATUS_BYTES, THRESHOLDS_BYTES,
 };
 use crate::record::{Element, Kind, Settings, Thresholds};
-
-/// Memory before a call.
-const BEFORE: u8 = 0xA5;
 
 const STATUS_A: [u8; 24] = [
     0x02, 0x00, 0x00, 0x14, 0x00, 0x00, 0x00, 0x07, 0x01, 0x00, 0x00, 0x00, 0x01, 0x00, 0x78, 0x23,
@@ -23,7 +21,7 @@ const THRESHOLDS_A: [u8; 24] = [
     0x05, 0x00, 0x00, 0x14, 0x00, 0x00, 0x00, 0x07, 0, 0, 0, 0, 0, 0, 0, 0, 0, 0, 0, 0, 0, 0, 0, 0,
 ];
 
-pub(super) fn check(checks: &mut Checks) {
+pub fn check(checks: &mut Checks) {
     pages_of_a(checks);
     output_lengths(checks);
     configurations_read(checks);

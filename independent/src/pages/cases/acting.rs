@@ -1,8 +1,8 @@
 //! What the two calls that act have in common: pages that they accept, spoiled in every way.
 
+use super::case::{Case, Offer};
 use super::changes::{change, say_own_length, strange_page};
 use super::shapes::{one_of_each, shelf, some_of_each};
-use super::{Case, Offer};
 use crate::cases::malformed_block;
 use crate::pages::calls::Call;
 use crate::pages::ElementPage;

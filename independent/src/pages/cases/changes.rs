@@ -1,6 +1,6 @@
 //! What can be wrong with a page, whichever it is.
 
-use super::LONGEST_PAGE;
+use super::case::LONGEST_PAGE;
 use crate::rng::Rng;
 
 type Change = fn(&mut Vec<u8>, &mut Rng);

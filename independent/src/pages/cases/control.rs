@@ -1,8 +1,8 @@
 //! Enclosure Control pages.
 
 use super::acting::{put, slots, Actor, Attempt, Chance, Slot};
+use super::case::{Case, Offer};
 use super::shapes::{between_two, shelf};
-use super::{Case, Offer};
 use crate::cases::{group, shelf_of, ELEMENTS_AT, ELEMENT_BYTES};
 use crate::pages::calls::APPLY_CONTROL;
 use crate::record::{Kind, Shelf};

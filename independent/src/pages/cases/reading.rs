@@ -1,8 +1,8 @@
 //! Pages for the three readers: those that a writer wrote, changed ones, and strange ones.
 
+use super::case::{page_written, Case, Offer, LONGEST_PAGE};
 use super::changes::{change, say_own_length, set, strange_page};
 use super::shapes::{one_of_each, shelf};
-use super::{page_written, Case, Offer, LONGEST_PAGE};
 use crate::cases::{malformed_block, text};
 use crate::pages::calls::{
     Call, CONFIGURATION_BYTES, READ_CONFIGURATION, READ_STATUS, READ_THRESHOLDS, STATUS_BYTES,

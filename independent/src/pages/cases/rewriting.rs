@@ -1,8 +1,8 @@
 //! What readers handed back, to be written again, and records that no reader hands back.
 
+use super::case::{page_written, writing_case, Case, Offer, ROOM};
 use super::reading::{accepted_status, accepted_thresholds, other_configuration, quadruples};
 use super::shapes::{one_of_each, shelf};
-use super::{page_written, writing_case, Case, Offer, ROOM};
 use crate::pages::calls::{
     Call, CONFIGURATION_BYTES, READ_STATUS, READ_THRESHOLDS, REWRITE_CONFIGURATION, REWRITE_STATUS,
     REWRITE_THRESHOLDS, STATUS_BYTES, THRESHOLDS_BYTES,

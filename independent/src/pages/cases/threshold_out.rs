@@ -1,9 +1,9 @@
 //! Threshold Out pages.
 
 use super::acting::{put, slots, Actor, Attempt, Chance, Slot};
+use super::case::{Case, Offer};
 use super::reading::quadruples;
 use super::shapes::{between_two, one_of_each, shelf};
-use super::{Case, Offer};
 use crate::cases::{element, group, shelf_of};
 use crate::pages::calls::APPLY_THRESHOLDS;
 use crate::record::{Element, Kind, Shelf, Thresholds};

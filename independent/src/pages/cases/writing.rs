@@ -1,7 +1,7 @@
 //! Pages of a shelf.
 
+use super::case::{page_written, writing_case, Case, Offer, ROOM};
 use super::shapes::{at_limits, one_of_each, shelf};
-use super::{page_written, writing_case, Case, Offer, ROOM};
 use crate::cases::malformed_block;
 use crate::pages::calls::{Call, WRITE_CONFIGURATION, WRITE_STATUS, WRITE_THRESHOLDS};
 use crate::record::Kind;

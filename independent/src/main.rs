@@ -4,6 +4,7 @@ mod bits;
 mod cases;
 mod element;
 mod library;
+mod limits;
 mod pages;
 mod record;
 mod rng;

@@ -2,6 +2,7 @@
 
 use crate::bits::{bit, flag};
 use crate::element::{Limits, Verdict};
+use crate::limits::{FASTEST, HIGHEST_CODE, HIGHEST_SPEED, STATUS_ENTRY_BYTES};
 use crate::record::{Configuration, Element, Kind, Settings};
 use std::iter::{once, repeat};
 
@@ -110,14 +111,14 @@ impl Element {
 }
 
 impl Shown {
-    /// None if the bytes have a bit set that the place does not name, or a code over 8.
+    /// None if the bytes have a bit set that the place does not name, or a code that is too high.
     pub fn from_element(place: Place, element: [u8; 4]) -> Option<Shown> {
         let shown = Shown::parse_element(place, element);
         (shown.in_range() && shown.element() == element).then_some(shown)
     }
 
     /// None if a field is out of range, or set where the place shows none.
-    pub fn from_entry(place: Place, entry: [u8; 16]) -> Option<Shown> {
+    pub fn from_entry(place: Place, entry: [u8; STATUS_ENTRY_BYTES]) -> Option<Shown> {
         let shown = Shown::parse_entry(place, entry);
         let mut looked_at = entry;
         looked_at[SPARE_BYTE] = 0;
@@ -129,13 +130,13 @@ impl Shown {
             Shown::Overall { code }
             | Shown::Temperature { code, .. }
             | Shown::Voltage { code, .. }
-            | Shown::Current { code, .. } => code <= 8,
+            | Shown::Current { code, .. } => code <= HIGHEST_CODE,
             Shown::Cooling {
                 code,
                 speed,
                 reading,
                 ..
-            } => code <= 8 && speed <= 7 && reading <= 2047,
+            } => code <= HIGHEST_CODE && speed <= HIGHEST_SPEED && reading <= FASTEST,
         }
     }
 
@@ -256,7 +257,7 @@ impl Shown {
     }
 
     /// Passes over the fields that the place does not show.
-    fn parse_entry(place: Place, entry: [u8; 16]) -> Shown {
+    fn parse_entry(place: Place, entry: [u8; STATUS_ENTRY_BYTES]) -> Shown {
         let Entry {
             code,
             settings,
@@ -304,8 +305,8 @@ impl Shown {
         }
     }
 
-    /// The sixteen bytes in a status record.
-    pub fn entry(&self) -> [u8; 16] {
+    /// The bytes in a status record.
+    pub fn entry(&self) -> [u8; STATUS_ENTRY_BYTES] {
         let entry = match *self {
             Shown::Overall { code } => Entry {
                 code,
@@ -380,7 +381,7 @@ struct Entry {
 
 impl Entry {
     /// A flag is set if its byte is 1.
-    fn parse(bytes: [u8; 16]) -> Entry {
+    fn parse(bytes: [u8; STATUS_ENTRY_BYTES]) -> Entry {
         let [code, settings @ .., on, off, speed, _, upper, lower, critical_over, warning_over, warning_under, critical_under] =
             bytes;
         let [prdfail, disabled, swap, ident, fail] = settings.map(is_one);
@@ -406,7 +407,7 @@ impl Entry {
         }
     }
 
-    fn bytes(&self) -> [u8; 16] {
+    fn bytes(&self) -> [u8; STATUS_ENTRY_BYTES] {
         let [upper, lower] = self.reading;
         [
             self.code,

@@ -5,10 +5,6 @@ use super::thresholds::ThresholdList;
 use super::{builder, configuration, control, threshold_out, Refusal};
 use crate::record::{self, Configuration, Shelf};
 
-pub const CONFIGURATION_BYTES: usize = 332;
-pub const STATUS_BYTES: usize = 1156;
-pub const THRESHOLDS_BYTES: usize = 292;
-
 /// The number of a call's answer, and all bytes of it as the door sends them.
 #[derive(Clone, Debug, PartialEq, Eq)]
 pub struct Answer {

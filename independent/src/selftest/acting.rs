@@ -5,7 +5,8 @@ use super::examples::{
     block_a, current, fan, fan_with, fans_a, group, plain, shelf_a, shelf_a_of, temperature, with,
     IDENT, NOISE, RST_SWAP, SPEED_5, SWAP, UNSELECTED,
 };
-use crate::cases::{self, ELEMENTS_AT, ELEMENT_BYTES};
+use crate::cases;
+use crate::limits::{ELEMENTS_AT, ELEMENT_BYTES, HIGHEST_SPEED, TYPES_AT};
 use crate::pages::calls::{apply_control, apply_thresholds, write_status, Answer};
 use crate::pages::cases::{control, threshold_out};
 use crate::record::{Element, Kind, Settings, Shelf, Thresholds};
@@ -155,11 +156,12 @@ fn headers_for_a(checks: &mut Checks) {
         for (what, number, page) in cases {
             checks.equal(what, call(&block, &page), refused(number, &block));
         }
-        let broken = with(&block, 41, &[1]);
+        let broken = with(&block, TYPES_AT + 1, &[1]);
         let answer = call(&broken, &[]);
         checks.equal("broken shelf, empty page", answer, refused(1, &broken));
-        let answer = call(&block[..379], &page);
-        checks.equal("379 bytes of A", answer, refused(1, &block[..379]));
+        let shorter = &block[..block.len() - 1];
+        let answer = call(shorter, &page);
+        checks.equal("A but for a byte", answer, refused(1, shorter));
     }
 }
 
@@ -207,7 +209,7 @@ fn shown(answer: &Answer) -> Vec<u8> {
 }
 
 fn requested_speeds(checks: &mut Checks) {
-    for code in 0..=7 {
+    for code in 0..=HIGHEST_SPEED {
         let elements = [UNSELECTED, [0x80, 0x00, 0x00, 0x20 + code]];
         let answer = apply_control(&shelf_a(vec![fan(3)]).block(), &control_page(&elements));
         let speed = if code == 0 { 3 } else { code };

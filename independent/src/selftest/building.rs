@@ -6,8 +6,9 @@ use super::examples::{
     block_a, fan, fan_with, fans_a, group, plain, shelf_a, shelf_a_of, with, BEFORE, IDENT, NOISE,
     RST_SWAP, SPEED_5, SWAP, UNSELECTED,
 };
-use crate::cases::{self, ELEMENTS_AT, ELEMENT_BYTES};
+use crate::cases;
 use crate::element::Request;
+use crate::limits::{ELEMENTS_AT, ELEMENT_BYTES, TYPES_AT};
 use crate::pages::calls::{apply_control, build_control, Answer};
 use crate::pages::cases::control;
 use crate::pages::cases::wishes::Few;
@@ -130,7 +131,7 @@ fn fans_a_wished(checks: &mut Checks) {
 
 fn order_of_refusals(checks: &mut Checks) {
     let block = block_a();
-    let broken = with(&block, 41, &[1]);
+    let broken = with(&block, TYPES_AT + 1, &[1]);
     let as_stored = wanted(&fans_a());
     let unreachable = with(&as_stored, 8, &[0x10]);
     let both = with(&unreachable, 0, &[0x80]);

@@ -2,10 +2,11 @@
 
 use super::checks::Checks;
 use super::examples::{
-    current, fan_at, fans_a, high_critical, high_warning, low_critical, low_warning, shelf_a,
-    temperature, voltage,
+    current, fan, fan_at, fans_a, high_critical, high_warning, largest_shelf, low_critical,
+    low_warning, shelf_a, temperature, voltage,
 };
 use crate::element::{Code, Limits, Verdict};
+use crate::limits::{block_bytes, HIGHEST_NOMINAL, LONGEST_BLOCK, SLOTS_AT, TYPES_AT};
 use crate::record::{self, Element, FanSettings, Kind, Settings, Thresholds};
 
 pub fn check(checks: &mut Checks) {
@@ -123,7 +124,7 @@ fn voltage_verdicts(checks: &mut Checks) {
     let low = voltage(1079, 1200, low_warning(20));
     let negative = voltage(-1, 1200, low_critical(20));
     let highest = voltage(i16::MAX, 1, Thresholds::default());
-    let lowest = voltage(i16::MIN, 32767, Thresholds::default());
+    let lowest = voltage(i16::MIN, HIGHEST_NOMINAL, Thresholds::default());
     let verdicts = [
         ("N 1200, V 1320", at_limit, nothing_trips()),
         ("N 1200, V 1321", above, critical_over()),
@@ -197,20 +198,22 @@ fn thresholds(checks: &mut Checks) {
 fn block_of_fans_a(checks: &mut Checks) {
     let shelf = shelf_a(fans_a().to_vec());
     let block = shelf.block();
-    checks.equal("length of A", block.len(), 380);
+    checks.equal("length of A", block.len(), block_bytes(3));
     checks.equal("generation of A", &block[..4], &[0, 0, 0, 7]);
-    checks.equal("types of A", &block[40..44], &[1, 0, 0, 0]);
-    checks.equal("slot of A", &block[44..51], &[3, 3, 3, 0, b'F', b'a', b'n']);
+    checks.equal("types of A", &block[TYPES_AT..SLOTS_AT], &[1, 0, 0, 0]);
+    checks.equal(
+        "slot of A",
+        &block[SLOTS_AT..][..7],
+        &[3, 3, 3, 0, b'F', b'a', b'n'],
+    );
     let element = [0, 0, 0, 0x23, 0, 0, 0, 0, 0, 0x78, 0, 0, 0, 0, 0, 0];
-    checks.equal("last fan of A", &block[364..], &element);
+    checks.equal("last fan of A", &block[block_bytes(2)..], &element);
     checks.equal("A is well formed", shelf.well_formed(), true);
     checks.equal("A read back", record::read(&block), Some(shelf));
-    let largest = shelf_a(vec![fan_at(120); 64]);
-    checks.equal("longest block", largest.block().len(), 1356);
-    checks.equal("64 elements", largest.well_formed(), true);
-    checks.equal(
-        "65 elements",
-        shelf_a(vec![fan_at(120); 65]).well_formed(),
-        false,
-    );
+    let mut largest = largest_shelf();
+    checks.equal("longest block", largest.block().len(), LONGEST_BLOCK);
+    checks.equal("most elements", largest.well_formed(), true);
+    let last = largest.groups.last_mut().expect("a type");
+    last.elements.push(fan(3));
+    checks.equal("an element more", largest.well_formed(), false);
 }

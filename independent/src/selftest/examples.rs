@@ -1,5 +1,6 @@
 //! Shelf A, and shelves, elements and requests like those of the paper's examples.
 
+use crate::limits::{MOST_ELEMENTS, MOST_OF_TYPE};
 use crate::record::{
     Element, FanSettings, Group, Identification, Kind, Settings, Shelf, Thresholds,
 };
@@ -127,6 +128,17 @@ pub fn shelf_a(elements: Vec<Element>) -> Shelf {
             elements,
         }],
     }
+}
+
+/// A shelf like A, with as many fans as a shelf may have, in as few types as may be.
+pub fn largest_shelf() -> Shelf {
+    let mut shelf = shelf_a(Vec::new());
+    let fans = vec![fan(3); MOST_ELEMENTS];
+    let types = fans.chunks(MOST_OF_TYPE);
+    shelf.groups = types
+        .map(|fans| group(Kind::Cooling, fans.to_vec()))
+        .collect();
+    shelf
 }
 
 /// A shelf like A, with elements of this type.

@@ -3,12 +3,15 @@
 use super::checks::Checks;
 use super::examples::{
     block_a, current, fan, fan_at, fan_like, fans_a, group, high_critical, high_warning,
-    low_critical, plain, shelf_a, shelf_a_of, temperature, voltage, with, BEFORE,
+    largest_shelf, low_critical, plain, shelf_a, shelf_a_of, temperature, voltage, with, BEFORE,
+};
+use crate::limits::{
+    configuration_page_bytes, CONFIGURATION_BYTES, FASTEST, HIGHEST_CODE, HIGHEST_SPEED,
+    LAST_LETTER, LONGEST_PAGE, STATUS_BYTES, STATUS_ENTRY_BYTES, THRESHOLDS_BYTES, TYPES_AT,
 };
 use crate::pages::calls::{
     read_configuration, read_status, read_thresholds, rewrite_configuration, rewrite_status,
     rewrite_thresholds, write_configuration, write_status, write_thresholds, Answer,
-    CONFIGURATION_BYTES, STATUS_BYTES, THRESHOLDS_BYTES,
 };
 use crate::record::{Element, Kind, Settings, Thresholds};
 
@@ -158,13 +161,23 @@ fn configurations_read(checks: &mut Checks) {
         ("no types", 6, no_types),
         ("descriptor length", 6, with(&page, 11, &[0x25])),
         ("type not served", 6, with(&page, 48, &[0x17])),
-        ("65 elements", 6, with(&page, 49, &[65])),
-        ("unprintable text", 6, with(&page, 54, &[0x7F])),
+        ("an element too many", 6, an_element_too_many()),
+        ("unprintable text", 6, with(&page, 54, &[LAST_LETTER + 1])),
     ];
     for (what, number, page) in refused {
         let answer = read_configuration(&page, &[BEFORE; CONFIGURATION_BYTES]);
         checks.equal(what, answer, not_read(number, CONFIGURATION_BYTES));
     }
+}
+
+/// The page of the largest shelf, whose last type then has one element more.
+fn an_element_too_many() -> Vec<u8> {
+    let largest = largest_shelf();
+    let answer = write_configuration(&largest.block(), &[BEFORE; LONGEST_PAGE]);
+    let mut page = answer.bytes[5..][..answer.written()].to_vec();
+    let last_header = configuration_page_bytes(largest.groups.len() - 1, 0);
+    page[last_header + 1] += 1;
+    page
 }
 
 fn status_headers(checks: &mut Checks) {
@@ -195,8 +208,12 @@ fn status_headers(checks: &mut Checks) {
         let answer = read_status(&configuration, &page, &[BEFORE; STATUS_BYTES]);
         checks.equal(what, answer, not_read(number, STATUS_BYTES));
     }
-    let broken = with(&configuration, 41, &[1]);
-    for configuration in [&broken[..], &configuration[..331], &block_a()] {
+    let broken = with(&configuration, TYPES_AT + 1, &[1]);
+    for configuration in [
+        &broken[..],
+        &configuration[..CONFIGURATION_BYTES - 1],
+        &block_a(),
+    ] {
         let answer = read_status(configuration, &[], &[BEFORE; STATUS_BYTES]);
         checks.equal("broken configuration", answer, not_read(1, STATUS_BYTES));
     }
@@ -237,8 +254,8 @@ fn status_fields(checks: &mut Checks) {
     }
 }
 
-const OVERALL_OK: [u8; 16] = [1, 0, 0, 0, 0, 0, 0, 0, 0, 0, 0, 0, 0, 0, 0, 0];
-const FAN_OF_A: [u8; 16] = [1, 0, 0, 0, 0, 0, 1, 0, 3, 0, 0, 120, 0, 0, 0, 0];
+const OVERALL_OK: [u8; STATUS_ENTRY_BYTES] = [1, 0, 0, 0, 0, 0, 0, 0, 0, 0, 0, 0, 0, 0, 0, 0];
+const FAN_OF_A: [u8; STATUS_ENTRY_BYTES] = [1, 0, 0, 0, 0, 0, 1, 0, 3, 0, 0, 120, 0, 0, 0, 0];
 
 fn record_a() -> Vec<u8> {
     let mut record = vec![0, 0, 0, 4];
@@ -274,7 +291,7 @@ fn statuses_handed_back(checks: &mut Checks) {
     let cold = temperature(9, Thresholds::from_bytes([8, 8, 10, 10]));
     let negative = voltage(-1, 1200, Thresholds::from_bytes([0, 0, 20, 20]));
     let above = current(1321, 1200, Thresholds::from_bytes([20, 20, 0, 0]));
-    let entries: [(Element, [u8; 16]); 4] = [
+    let entries: [(Element, [u8; STATUS_ENTRY_BYTES]); 4] = [
         (
             stopped,
             [1, 1, 1, 1, 1, 1, 0, 1, 7, 0, 0x07, 0xFF, 0, 0, 0, 0],
@@ -318,13 +335,13 @@ fn statuses_rewritten(checks: &mut Checks) {
     checks.equal("five entries, CRIT 2", number(&with(&five, 1, &[2]), 0), 9);
     checks.equal("CRIT 2, short", number(&with(&record, 1, &[2]), 0), 6);
     checks.equal("short", number(&record, 23), 11);
-    let overall_fields = (1..16).filter(|field| *field != 9);
+    let overall_fields = (1..STATUS_ENTRY_BYTES).filter(|field| *field != 9);
     for field in overall_fields {
         let set = with(&record, 4 + field, &[1]);
         checks.equal("overall entry with more", number(&set, 24), 6);
     }
     for (field, most) in [
-        (0, 8),
+        (0, HIGHEST_CODE),
         (1, 1),
         (2, 1),
         (3, 1),
@@ -332,8 +349,8 @@ fn statuses_rewritten(checks: &mut Checks) {
         (5, 1),
         (6, 1),
         (7, 1),
-        (8, 7),
-        (10, 7),
+        (8, HIGHEST_SPEED),
+        (10, FASTEST.to_be_bytes()[0]),
     ] {
         let (largest, larger) = (
             with(&record, 20 + field, &[most]),
@@ -342,7 +359,7 @@ fn statuses_rewritten(checks: &mut Checks) {
         checks.equal("largest value", number(&largest, 24), 0);
         checks.equal("larger value", number(&larger, 24), 6);
     }
-    for field in 12..16 {
+    for field in 12..STATUS_ENTRY_BYTES {
         let set = with(&record, 20 + field, &[1]);
         checks.equal("limit of a fan", number(&set, 24), 6);
     }

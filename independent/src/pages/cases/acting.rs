@@ -1,9 +1,10 @@
 //! What the two calls that act have in common: pages that they accept, spoiled in every way.
 
-use super::case::{Case, Offer};
+use super::case::{Case, Offer, ROOM};
 use super::changes::{change, say_own_length, strange_page};
 use super::shapes::{one_of_each, shelf, some_of_each};
-use crate::cases::malformed_block;
+use crate::cases::{malformed_block, LONG_BLOCK};
+use crate::limits::{element_page_bytes, SLOTS_AT, TYPES_AT};
 use crate::pages::calls::Call;
 use crate::pages::ElementPage;
 use crate::record::{Kind, Shelf};
@@ -64,7 +65,7 @@ pub fn slots(shelf: &Shelf) -> Vec<Slot> {
     for group in &shelf.groups {
         for place in 0..=group.elements.len() {
             slots.push(Slot {
-                at: 8 + 4 * slots.len(),
+                at: element_page_bytes(slots.len()),
                 kind: group.kind,
                 overall: place == 0,
             });
@@ -137,9 +138,9 @@ impl Actor {
         match rng.range(0, 4) {
             0 => block = shelf(rng).block(),
             1 => block = malformed_block(rng),
-            2 => block[rng.range(0, 39)] ^= 1 << rng.range(0, 7),
+            2 => block[rng.range(0, TYPES_AT - 1)] ^= 1 << rng.range(0, 7),
             _ => {
-                let at = rng.range(40, block.len() - 1);
+                let at = rng.range(TYPES_AT, block.len() - 1);
                 block[at] ^= 1 << rng.range(0, 7);
             }
         }
@@ -155,7 +156,7 @@ impl Actor {
     }
 
     fn random_bytes(&self, rng: &mut Rng) -> Case {
-        let (shelf_length, page_length) = (rng.range(0, 1_400), rng.range(0, 400));
+        let (shelf_length, page_length) = (rng.range(0, LONG_BLOCK), rng.range(0, ROOM));
         let (block, page) = (rng.bytes(shelf_length), rng.bytes(page_length));
         self.case_of(block, page)
     }
@@ -239,7 +240,8 @@ pub fn break_block(block: &mut Vec<u8>, rng: &mut Rng) {
         1 => block.truncate(block.len() - 1),
         _ => {
             let last = block.len() - 1;
-            block[rng.pick(&[41, 42, 43, 47, last])] = rng.nonzero_byte();
+            let zeros = [TYPES_AT + 1, TYPES_AT + 2, TYPES_AT + 3, SLOTS_AT + 3, last];
+            block[rng.pick(&zeros)] = rng.nonzero_byte();
         }
     }
 }

@@ -1,5 +1,6 @@
 //! One call to compare, and output buffers of telling lengths for it.
 
+use crate::limits::{LONGEST_PAGE, LONGEST_SAID};
 use crate::pages::calls::{Answer, Call};
 use crate::rng::Rng;
 
@@ -19,9 +20,8 @@ impl Case {
     }
 }
 
-pub const LONGEST_PAGE: usize = 65_539;
 /// As long as any page that a shelf has, and longer.
-pub const ROOM: usize = 400;
+pub const ROOM: usize = LONGEST_PAGE + 64;
 
 /// A call that writes, with an output buffer of a telling length.
 pub fn writing_case(rng: &mut Rng, call: &'static Call, inputs: Vec<Vec<u8>>) -> Case {
@@ -43,7 +43,7 @@ pub fn page_written(call: &Call, inputs: &[Vec<u8>]) -> Vec<u8> {
 
 pub fn output_length(rng: &mut Rng, page: usize) -> usize {
     match rng.range(0, 199) {
-        0 => rng.pick(&[LONGEST_PAGE, LONGEST_PAGE + 1, LONGEST_PAGE + 5, 2 * 65_536]),
+        0 => rng.pick(&[LONGEST_SAID, LONGEST_SAID + 1, LONGEST_SAID + 5, 2 * 65_536]),
         1..=10 => rng.range(0, 8),
         11..=30 => page.saturating_sub(1),
         31..=50 => rng.range(0, page),

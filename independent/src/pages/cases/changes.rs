@@ -1,6 +1,7 @@
 //! What can be wrong with a page, whichever it is.
 
-use super::case::LONGEST_PAGE;
+use super::case::ROOM;
+use crate::limits::LONGEST_SAID;
 use crate::rng::Rng;
 
 type Change = fn(&mut Vec<u8>, &mut Rng);
@@ -32,10 +33,10 @@ pub fn strange_page(rng: &mut Rng, code: u8, page: &[u8]) -> Vec<u8> {
     match rng.range(0, 9) {
         0 => Vec::new(),
         1..=3 => page[..rng.range(1, 3)].to_vec(),
-        4 => random_page(rng, code, LONGEST_PAGE),
+        4 => random_page(rng, code, LONGEST_SAID),
         5 => wrapped(rng, page),
         _ => {
-            let length = rng.range(4, 400);
+            let length = rng.range(4, ROOM);
             random_page(rng, code, length)
         }
     }
@@ -84,7 +85,7 @@ fn other_byte(page: &mut Vec<u8>, rng: &mut Rng) {
 
 fn several_bytes(page: &mut Vec<u8>, rng: &mut Rng) {
     for _ in 0..rng.range(2, 5) {
-        let at = rng.range(4, 400);
+        let at = rng.range(4, ROOM);
         let value = rng.byte();
         set(page, at, value);
     }

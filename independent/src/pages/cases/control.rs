@@ -3,14 +3,14 @@
 use super::acting::{put, slots, Actor, Attempt, Chance, Slot};
 use super::case::{Case, Offer};
 use super::shapes::{between_two, shelf};
-use crate::cases::{group, shelf_of, ELEMENTS_AT, ELEMENT_BYTES};
+use crate::cases::{group, shelf_of};
+use crate::limits::{block_bytes, most_elements_of, ELEMENTS_AT, ELEMENT_BYTES};
 use crate::pages::calls::APPLY_CONTROL;
 use crate::record::{Kind, Shelf};
 use crate::rng::Rng;
 use std::array::from_fn;
 
 const SELECT: u32 = 0x8000_0000;
-const FULL: usize = 64;
 
 static CONTROL: Actor = Actor {
     call: &APPLY_CONTROL,
@@ -130,7 +130,7 @@ pub fn every_setting(kind: Kind) -> Vec<u32> {
 /// Each request meets each stored setting of its type, once as overall and once as individual element.
 fn every_request_over_every_setting(rng: &mut Rng, kind: Kind, offer: Offer) {
     let requests = every_request(kind);
-    for stored in every_setting(kind).chunks(FULL) {
+    for stored in every_setting(kind).chunks(most_elements_of(1)) {
         let groups = vec![group(rng, kind, stored.len())];
         let shelf = shelf_of(rng, groups);
         let block = with_settings(&shelf, stored);
@@ -163,7 +163,7 @@ fn any_overall(rng: &mut Rng, kind: Kind) -> u32 {
 pub fn with_settings(shelf: &Shelf, stored: &[u32]) -> Vec<u8> {
     let mut block = shelf.block();
     for (place, settings) in stored.iter().enumerate() {
-        let at = ELEMENTS_AT + ELEMENT_BYTES * place;
+        let at = block_bytes(place);
         block[at..at + 4].copy_from_slice(&settings.to_be_bytes());
     }
     block

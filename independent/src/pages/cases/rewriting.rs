@@ -3,9 +3,12 @@
 use super::case::{page_written, writing_case, Case, Offer, ROOM};
 use super::reading::{accepted_status, accepted_thresholds, other_configuration, quadruples};
 use super::shapes::{one_of_each, shelf};
+use crate::limits::{
+    record_bytes, CONFIGURATION_BYTES, FIRST_LETTER, LAST_LETTER, MOST_ENTRIES, MOST_OF_TYPE,
+    MOST_TEXT, STATUS_BYTES, STATUS_ENTRY_BYTES, THRESHOLDS_BYTES, THRESHOLD_ENTRY_BYTES, TYPES_AT,
+};
 use crate::pages::calls::{
-    Call, CONFIGURATION_BYTES, READ_STATUS, READ_THRESHOLDS, REWRITE_CONFIGURATION, REWRITE_STATUS,
-    REWRITE_THRESHOLDS, STATUS_BYTES, THRESHOLDS_BYTES,
+    Call, READ_STATUS, READ_THRESHOLDS, REWRITE_CONFIGURATION, REWRITE_STATUS, REWRITE_THRESHOLDS,
 };
 use crate::record::Shelf;
 use crate::rng::Rng;
@@ -37,7 +40,7 @@ static STATUS: Rewriter = Rewriter {
     reader: &READ_STATUS,
     accepted_page: accepted_status,
     record_bytes: STATUS_BYTES,
-    entry_bytes: 16,
+    entry_bytes: STATUS_ENTRY_BYTES,
 };
 
 static THRESHOLDS: Rewriter = Rewriter {
@@ -45,8 +48,27 @@ static THRESHOLDS: Rewriter = Rewriter {
     reader: &READ_THRESHOLDS,
     accepted_page: accepted_thresholds,
     record_bytes: THRESHOLDS_BYTES,
-    entry_bytes: 4,
+    entry_bytes: THRESHOLD_ENTRY_BYTES,
 };
+
+/// Values of a configuration's byte: type codes, and numbers and letters at the limits.
+const TELLING: [u8; 15] = [
+    0x00,
+    0x01,
+    0x02,
+    0x03,
+    0x04,
+    0x12,
+    0x13,
+    FIRST_LETTER - 1,
+    MOST_TEXT as u8,
+    MOST_TEXT as u8 + 1,
+    MOST_OF_TYPE as u8,
+    (MOST_OF_TYPE + 1) as u8,
+    LAST_LETTER,
+    LAST_LETTER + 1,
+    0xFF,
+];
 
 impl Rewriter {
     /// A configuration, and a record that the reader hands back under it.
@@ -94,7 +116,7 @@ impl Rewriter {
     /// The bytes up to the last entry.
     fn used(&self, record: &[u8]) -> usize {
         let entries = usize::from(u16::from_be_bytes([record[2], record[3]]));
-        record.len().min(4 + self.entry_bytes * entries)
+        record.len().min(record_bytes(self.entry_bytes, entries))
     }
 
     fn every_value_of_every_byte(&self, rng: &mut Rng, offer: Offer) {
@@ -135,8 +157,8 @@ fn other_number_of_entries(rng: &mut Rng, record: &mut [u8]) {
     let any = rng.word();
     let other = rng.pick(&[
         0,
-        72,
-        73,
+        MOST_ENTRIES as u16,
+        MOST_ENTRIES as u16 + 1,
         any,
         number.wrapping_add(1),
         number.wrapping_sub(1),
@@ -169,11 +191,8 @@ fn configurations(rng: &mut Rng, offer: Offer) {
         offer(writing_case(rng, &REWRITE_CONFIGURATION, vec![block]));
     }
     let block = one_of_each(rng).configuration().block();
-    for at in 40..CONFIGURATION_BYTES {
-        for value in [
-            0x00, 0x01, 0x02, 0x03, 0x04, 0x12, 0x13, 0x1F, 0x20, 0x21, 0x40, 0x41, 0x7E, 0x7F,
-            0xFF,
-        ] {
+    for at in TYPES_AT..CONFIGURATION_BYTES {
+        for value in TELLING {
             let mut changed = block.clone();
             changed[at] = value;
             offer(writing_case(rng, &REWRITE_CONFIGURATION, vec![changed]));

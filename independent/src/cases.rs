@@ -56,8 +56,7 @@ fn well_formed_shelves(rng: &mut Rng, offer: Offer) {
     }
     for kind in Kind::ALL {
         for count in 0..=most_elements_of(1) {
-            let groups = vec![group(rng, kind, count)];
-            offer(&shelf_of(rng, groups).block(), Intent::WellFormed);
+            offer(&one_type(rng, kind, count).block(), Intent::WellFormed);
         }
     }
 }
@@ -89,8 +88,7 @@ fn byte_changes(rng: &mut Rng, offer: Offer) {
 /// are the pairs of threshold bytes that have an order.
 fn element_words(rng: &mut Rng, offer: Offer) {
     for kind in Kind::ALL {
-        let groups = vec![group(rng, kind, 1)];
-        let block = shelf_of(rng, groups).block();
+        let block = one_type(rng, kind, 1).block();
         for at in (ELEMENTS_AT..block.len()).step_by(2) {
             let mut changed = block.clone();
             for word in 0..=u16::MAX {
@@ -528,6 +526,12 @@ pub fn shelf(rng: &mut Rng) -> Shelf {
     shelf_of(rng, groups)
 }
 
+/// A shelf with so many elements of this type alone.
+pub fn one_type(rng: &mut Rng, kind: Kind, count: usize) -> Shelf {
+    let groups = vec![group(rng, kind, count)];
+    shelf_of(rng, groups)
+}
+
 pub fn shelf_of(rng: &mut Rng, groups: Vec<Group>) -> Shelf {
     Shelf {
         generation: u32::from_be_bytes(from_fn(|_| rng.byte())),
@@ -601,48 +605,56 @@ pub fn text(rng: &mut Rng, length: usize) -> Vec<u8> {
 
 pub fn element(rng: &mut Rng, kind: Kind) -> Element {
     match kind {
-        Kind::Cooling => Element::Cooling {
-            settings: FanSettings {
-                common: settings(rng),
-                on: rng.one_in(2),
-                speed: rng.range(1, HIGHEST_SPEED.into()) as u8,
-            },
-            thresholds: Thresholds::default(),
-            reading: near(rng, &[0, 1, 255, 256, FASTEST - 1, FASTEST], 0, FASTEST),
-            nominal: 0,
-        },
-        Kind::Temperature => {
-            let (low_warning, low_critical) = ordered_pair(rng);
-            Element::Temperature {
-                settings: settings(rng),
-                thresholds: Thresholds {
-                    low_warning,
-                    low_critical,
-                    ..high_thresholds(rng)
-                },
-                reading: near(rng, &[0, 1, 254, 255], 0, 255),
-                nominal: 0,
-            }
-        }
-        Kind::Voltage => {
-            let (low_critical, low_warning) = ordered_pair(rng);
-            Element::Voltage {
-                settings: settings(rng),
-                thresholds: Thresholds {
-                    low_warning,
-                    low_critical,
-                    ..high_thresholds(rng)
-                },
-                reading: signed_reading(rng),
-                nominal: nominal(rng),
-            }
-        }
+        Kind::Cooling => fan(rng),
+        Kind::Temperature => temperature_sensor(rng),
+        Kind::Voltage => voltage_sensor(rng),
         Kind::Current => Element::Current {
             settings: settings(rng),
             thresholds: high_thresholds(rng),
             reading: signed_reading(rng),
             nominal: nominal(rng),
         },
+    }
+}
+
+fn fan(rng: &mut Rng) -> Element {
+    Element::Cooling {
+        settings: FanSettings {
+            common: settings(rng),
+            on: rng.one_in(2),
+            speed: rng.range(1, HIGHEST_SPEED.into()) as u8,
+        },
+        thresholds: Thresholds::default(),
+        reading: near(rng, &[0, 1, 255, 256, FASTEST - 1, FASTEST], 0, FASTEST),
+        nominal: 0,
+    }
+}
+
+fn temperature_sensor(rng: &mut Rng) -> Element {
+    let (low_warning, low_critical) = ordered_pair(rng);
+    Element::Temperature {
+        settings: settings(rng),
+        thresholds: Thresholds {
+            low_warning,
+            low_critical,
+            ..high_thresholds(rng)
+        },
+        reading: near(rng, &[0, 1, 254, 255], 0, 255),
+        nominal: 0,
+    }
+}
+
+fn voltage_sensor(rng: &mut Rng) -> Element {
+    let (low_critical, low_warning) = ordered_pair(rng);
+    Element::Voltage {
+        settings: settings(rng),
+        thresholds: Thresholds {
+            low_warning,
+            low_critical,
+            ..high_thresholds(rng)
+        },
+        reading: signed_reading(rng),
+        nominal: nominal(rng),
     }
 }
 

@@ -3,6 +3,7 @@
 mod bits;
 mod cases;
 mod element;
+mod hex;
 mod library;
 mod limits;
 mod pages;

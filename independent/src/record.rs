@@ -393,6 +393,16 @@ impl Element {
         in_range && self.thresholds().keep_order(self.kind())
     }
 
+    /// Without a fan's ON and SPEED.
+    pub fn settings(&self) -> Settings {
+        match self {
+            Element::Cooling { settings, .. } => settings.common,
+            Element::Temperature { settings, .. }
+            | Element::Voltage { settings, .. }
+            | Element::Current { settings, .. } => *settings,
+        }
+    }
+
     pub fn thresholds(&self) -> Thresholds {
         match self {
             Element::Cooling { thresholds, .. }
@@ -509,21 +519,21 @@ impl Settings {
 
 impl FanSettings {
     fn bytes(&self) -> [u8; 4] {
-        let common = self.common;
-        let byte0 = flag(common.prdfail, 6) + flag(common.disabled, 5) + flag(common.swap, 4);
-        let byte1 = flag(common.ident, 7);
-        let byte3 = flag(common.fail, 6) + flag(self.on, 5) + self.speed;
-        [byte0, byte1, 0, byte3]
+        let fail_elsewhere = Settings {
+            fail: false,
+            ..self.common
+        };
+        let [byte0, byte1, byte2, _] = fail_elsewhere.bytes();
+        let byte3 = flag(self.common.fail, 6) + flag(self.on, 5) + self.speed;
+        [byte0, byte1, byte2, byte3]
     }
 
-    fn from_bytes([byte0, byte1, _, byte3]: [u8; 4]) -> FanSettings {
+    fn from_bytes(bytes: [u8; 4]) -> FanSettings {
+        let [_, _, _, byte3] = bytes;
         FanSettings {
             common: Settings {
-                prdfail: bit(byte0, 6),
-                disabled: bit(byte0, 5),
-                swap: bit(byte0, 4),
-                ident: bit(byte1, 7),
                 fail: bit(byte3, 6),
+                ..Settings::from_bytes(bytes)
             },
             on: bit(byte3, 5),
             speed: byte3 % 8,

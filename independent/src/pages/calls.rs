@@ -15,8 +15,17 @@ pub struct Answer {
 impl Answer {
     /// The length of the page, for a call that writes one.
     pub fn written(&self) -> usize {
-        let length = self.bytes[1..5].try_into().expect("four bytes");
-        u32::from_be_bytes(length) as usize
+        self.wide_number(1)
+    }
+
+    /// The SELECTs on the page, for the call that builds one.
+    pub fn selects(&self) -> usize {
+        self.wide_number(5)
+    }
+
+    fn wide_number(&self, at: usize) -> usize {
+        let bytes = self.bytes[at..at + 4].try_into().expect("four bytes");
+        u32::from_be_bytes(bytes) as usize
     }
 }
 

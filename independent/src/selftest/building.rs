@@ -443,7 +443,7 @@ fn laws(checks: &mut Checks) {
         let page = &answer.bytes[9..];
         checks.equal("as any page", apply_control(&before, page), after);
         let (this, other) = (selects_on(page), selects_on(&any_page));
-        checks.equal("SELECTs told", usize::from(answer.bytes[8]), this);
+        checks.equal("SELECTs told", answer.selects(), this);
         let not_after = (this, page) <= (other, &any_page[..]);
         checks.equal("not better than the one built", not_after, true);
     }

@@ -1,8 +1,10 @@
 //! What the two calls that act have in common: pages that they accept, spoiled in every way.
 
 use super::case::{Case, Offer, ROOM};
-use super::changes::{change, say_own_length, strange_page};
-use super::shapes::{one_of_each, shelf, some_of_each};
+use super::changes::{
+    change, flip_bit, of_every_length, say_own_length, strange_page, with_every_value,
+};
+use super::shapes::{between_two, one_of_each, shelf, some_of_each};
 use crate::cases::{malformed_block, LONG_BLOCK};
 use crate::limits::{element_page_bytes, SLOTS_AT, TYPES_AT};
 use crate::pages::calls::Call;
@@ -74,6 +76,16 @@ pub fn slots(shelf: &Shelf) -> Vec<Slot> {
     slots
 }
 
+/// So many elements of a type, and where one of its elements stands on a page, the overall one first.
+pub const AIMS: [(usize, usize); 5] = [(0, 0), (3, 0), (3, 1), (3, 2), (3, 3)];
+
+/// A shelf with the type between two others, and the slot that is aimed at.
+pub fn aimed(rng: &mut Rng, kind: Kind, (count, place): (usize, usize)) -> (Shelf, Slot) {
+    let shelf = between_two(rng, kind, count);
+    let slot = slots(&shelf)[1 + shelf.groups[0].elements.len() + place];
+    (shelf, slot)
+}
+
 pub fn put(page: &mut [u8], slot: Slot, element: [u8; 4]) {
     page[slot.at..slot.at + 4].copy_from_slice(&element);
 }
@@ -139,10 +151,7 @@ impl Actor {
             0 => block = shelf(rng).block(),
             1 => block = malformed_block(rng),
             2 => block[rng.range(0, TYPES_AT - 1)] ^= 1 << rng.range(0, 7),
-            _ => {
-                let at = rng.range(TYPES_AT, block.len() - 1);
-                block[at] ^= 1 << rng.range(0, 7);
-            }
+            _ => flip_bit(&mut block, TYPES_AT, rng),
         }
         self.case_of(block, page)
     }
@@ -194,9 +203,7 @@ impl Actor {
         for at in 0..length {
             let shelf = one_of_each(rng);
             let page = (self.accepted)(rng, &shelf);
-            for value in 0..=255 {
-                let mut changed = page.clone();
-                changed[at] = value;
+            for changed in with_every_value(&page, at) {
                 offer(self.case(&shelf, changed));
             }
         }
@@ -205,15 +212,8 @@ impl Actor {
     fn every_page_length(&self, rng: &mut Rng, offer: Offer) {
         let shelf = one_of_each(rng);
         let page = (self.accepted)(rng, &shelf);
-        for length in 0..page.len() + 16 {
-            for adapted in [false, true] {
-                let mut changed = page.clone();
-                changed.resize(length, 0);
-                if adapted {
-                    say_own_length(&mut changed);
-                }
-                offer(self.case(&shelf, changed));
-            }
+        for changed in of_every_length(&page) {
+            offer(self.case(&shelf, changed));
         }
     }
 

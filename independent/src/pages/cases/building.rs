@@ -2,10 +2,11 @@
 
 use super::acting::{break_block, slots};
 use super::case::{output_length, page_written, Case, Offer};
+use super::changes::flip_bit;
 use super::control::{every_setting, every_single_bit, named, with_settings};
 use super::shapes::{between_two, one_of_each, shelf, some_of_each};
 use super::wishes::{all_changed, any_setting, as_stored, Few, Pair, Pattern, PATTERNS, SWAP};
-use crate::cases::{group, malformed_block, shelf_of};
+use crate::cases::{group, malformed_block, one_type, shelf_of};
 use crate::limits::{block_bytes, element_page_bytes, most_elements_of, MOST_ELEMENTS, TYPES_AT};
 use crate::pages::builder::selects;
 use crate::pages::calls::BUILD_CONTROL;
@@ -142,11 +143,6 @@ fn any_shelf(rng: &mut Rng) -> Shelf {
     } else {
         few_of_few(rng)
     }
-}
-
-fn one_type(rng: &mut Rng, kind: Kind, count: usize) -> Shelf {
-    let groups = vec![group(rng, kind, count)];
-    shelf_of(rng, groups)
 }
 
 /// Every wish over all that can be stored.
@@ -296,10 +292,7 @@ fn other_shelf(rng: &mut Rng) -> Case {
         1 => *block = malformed_block(rng),
         2 => break_block(block, rng),
         3 => block[rng.range(0, TYPES_AT - 1)] ^= 1 << rng.range(0, 7),
-        _ => {
-            let at = rng.range(TYPES_AT, block.len() - 1);
-            block[at] ^= 1 << rng.range(0, 7);
-        }
+        _ => flip_bit(block, TYPES_AT, rng),
     }
     wish.case(rng)
 }

@@ -34,6 +34,26 @@ pub fn writing_case(rng: &mut Rng, call: &'static Call, inputs: Vec<Vec<u8>>) ->
     }
 }
 
+/// A call that writes, with room for any page.
+pub fn roomy_case(rng: &mut Rng, call: &'static Call, inputs: Vec<Vec<u8>>) -> Case {
+    Case {
+        call,
+        inputs,
+        lent: rng.bytes(ROOM),
+    }
+}
+
+/// A call that writes, with output buffers from none to longer than the page.
+pub fn every_output_length(rng: &mut Rng, call: &'static Call, inputs: &[Vec<u8>], offer: Offer) {
+    for length in 0..page_written(call, inputs).len() + 8 {
+        offer(Case {
+            call,
+            inputs: inputs.to_vec(),
+            lent: rng.bytes(length),
+        });
+    }
+}
+
 /// Empty if the call refuses.
 pub fn page_written(call: &Call, inputs: &[Vec<u8>]) -> Vec<u8> {
     let answer = call.answer(inputs, &[0; ROOM]);

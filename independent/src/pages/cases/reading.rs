@@ -1,7 +1,10 @@
 //! Pages for the three readers: those that a writer wrote, changed ones, and strange ones.
 
 use super::case::{page_written, Case, Offer};
-use super::changes::{change, say_own_length, set, strange_page};
+use super::changes::{
+    change, of_every_length, say_own_length, set, strange_page, with_every_quadruple,
+    with_every_value,
+};
 use super::shapes::{one_of_each, shelf};
 use crate::cases::{malformed_block, text};
 use crate::limits::{
@@ -102,35 +105,32 @@ impl Reader {
     }
 
     fn every_value_of_every_byte(&self, rng: &mut Rng, offer: Offer) {
-        let shelf = one_of_each(rng);
-        let inputs = (self.accepted)(rng, &shelf);
-        let length = inputs.last().map_or(0, Vec::len);
-        for at in 0..length {
-            for value in 0..=255 {
-                let mut changed = inputs.clone();
-                let page = changed.last_mut().expect("a page");
-                page[at] = value;
-                offer(self.case(rng, changed));
+        let (others, page) = self.accepted_for_one_of_each(rng);
+        for at in 0..page.len() {
+            for changed in with_every_value(&page, at) {
+                offer(self.case(rng, with_page(&others, changed)));
             }
         }
     }
 
     fn every_length(&self, rng: &mut Rng, offer: Offer) {
-        let shelf = one_of_each(rng);
-        let inputs = (self.accepted)(rng, &shelf);
-        let longest = inputs.last().map_or(0, Vec::len) + 16;
-        for length in 0..longest {
-            for adapted in [false, true] {
-                let mut changed = inputs.clone();
-                let page = changed.last_mut().expect("a page");
-                page.resize(length, 0);
-                if adapted {
-                    say_own_length(page);
-                }
-                offer(self.case(rng, changed));
-            }
+        let (others, page) = self.accepted_for_one_of_each(rng);
+        for changed in of_every_length(&page) {
+            offer(self.case(rng, with_page(&others, changed)));
         }
     }
+
+    /// The page, and what the call looks at beside it.
+    fn accepted_for_one_of_each(&self, rng: &mut Rng) -> (Vec<Vec<u8>>, Vec<u8>) {
+        let shelf = one_of_each(rng);
+        let mut inputs = (self.accepted)(rng, &shelf);
+        let page = inputs.pop().expect("a page");
+        (inputs, page)
+    }
+}
+
+fn with_page(others: &[Vec<u8>], page: Vec<u8>) -> Vec<Vec<u8>> {
+    [others, &[page]].concat()
 }
 
 /// A configuration that is broken, or one that the page is not for.
@@ -285,24 +285,12 @@ fn longest_configuration_pages(rng: &mut Rng, offer: Offer) {
     }
 }
 
-/// Each element of a threshold page in turn takes these four bytes.
+/// Each element of a threshold page in turn.
 fn threshold_quadruples(rng: &mut Rng, offer: Offer) {
-    let shelf = one_of_each(rng);
-    let inputs = accepted_thresholds(rng, &shelf);
-    for at in (8..inputs[1].len()).step_by(4) {
-        for four in quadruples() {
-            let mut changed = inputs.clone();
-            changed[1][at..at + 4].copy_from_slice(&four);
-            offer(THRESHOLDS.case(rng, changed));
+    let (others, page) = THRESHOLDS.accepted_for_one_of_each(rng);
+    for at in (8..page.len()).step_by(4) {
+        for changed in with_every_quadruple(&page, at) {
+            offer(THRESHOLDS.case(rng, with_page(&others, changed)));
         }
     }
-}
-
-/// Any four of a few telling bytes.
-pub fn quadruples() -> impl Iterator<Item = [u8; 4]> {
-    const TELLING: [u8; 6] = [0, 1, 127, 128, 254, 255];
-    (0..TELLING.len().pow(4)).map(|number| {
-        let digit = |place: u32| TELLING[number / TELLING.len().pow(place) % TELLING.len()];
-        [digit(3), digit(2), digit(1), digit(0)]
-    })
 }

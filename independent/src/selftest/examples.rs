@@ -49,6 +49,75 @@ pub fn fan_like(common: Settings, speed: u8, reading: u16) -> Element {
     }
 }
 
+/// Three fans of a shelf like A, stored and wanted; the best page's elements, and the SELECTs among them.
+pub struct Example {
+    pub what: &'static str,
+    pub stored: [Element; 3],
+    pub wanted: [Element; 3],
+    pub elements: [[u8; 4]; 4],
+    pub selects: u8,
+}
+
+pub fn wishes_of_the_paper() -> impl Iterator<Item = Example> {
+    speeds_wanted().into_iter().chain(settings_wanted())
+}
+
+fn speeds_wanted() -> [Example; 3] {
+    [
+        Example {
+            what: "speed 5 for all",
+            stored: fans_a(),
+            wanted: [fan(5), fan(5), fan(5)],
+            elements: [SPEED_5, UNSELECTED, UNSELECTED, UNSELECTED],
+            selects: 1,
+        },
+        Example {
+            what: "speed 5 for the middle fan",
+            stored: fans_a(),
+            wanted: [fan(3), fan(5), fan(3)],
+            elements: [UNSELECTED, UNSELECTED, SPEED_5, UNSELECTED],
+            selects: 1,
+        },
+        Example {
+            what: "speed 5 for the first two",
+            stored: fans_a(),
+            wanted: [fan(5), fan(5), fan(3)],
+            elements: [UNSELECTED, SPEED_5, SPEED_5, UNSELECTED],
+            selects: 2,
+        },
+    ]
+}
+
+fn settings_wanted() -> [Example; 3] {
+    let ident = Settings {
+        ident: true,
+        ..Settings::default()
+    };
+    [
+        Example {
+            what: "speeds 3, 4, 5, IDENT for all",
+            stored: [fan(3), fan(4), fan(5)],
+            wanted: [3, 4, 5].map(|speed| fan_with(ident, speed)),
+            elements: [IDENT, UNSELECTED, UNSELECTED, UNSELECTED],
+            selects: 1,
+        },
+        Example {
+            what: "SWAP of the first fan cleared",
+            stored: [fan_with(SWAP, 3), fan(3), fan(3)],
+            wanted: fans_a(),
+            elements: [UNSELECTED, RST_SWAP, UNSELECTED, UNSELECTED],
+            selects: 1,
+        },
+        Example {
+            what: "as stored",
+            stored: fans_a(),
+            wanted: fans_a(),
+            elements: [UNSELECTED; 4],
+            selects: 0,
+        },
+    ]
+}
+
 /// The block of shelf A.
 pub fn block_a() -> Vec<u8> {
     shelf_a(fans_a().to_vec()).block()

@@ -248,9 +248,10 @@ fn status_fields(checks: &mut Checks) {
             checks.equal(&what, number(&page(bit, 0)), allowed(individual));
             checks.equal(&what, number(&page(0, bit)), allowed(0x0F00_0000));
         }
-        checks.equal("code 9", number(&page(0x0900_0000, 0)), 6);
-        checks.equal("overall code 9", number(&page(0, 0x0900_0000)), 6);
-        checks.equal("code 8", number(&page(0x0800_0000, 0x0800_0000)), 0);
+        let [highest, higher] = [HIGHEST_CODE, HIGHEST_CODE + 1].map(|code| u32::from(code) << 24);
+        checks.equal("code too high", number(&page(higher, 0)), 6);
+        checks.equal("overall code too high", number(&page(0, higher)), 6);
+        checks.equal("highest code", number(&page(highest, highest)), 0);
         for byte1 in 0..=0xFF {
             let expected = if [0, 2, 4, 6].contains(&byte1) { 0 } else { 6 };
             let page = with(&page(0, 0), 1, &[byte1]);

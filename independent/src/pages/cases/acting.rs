@@ -40,17 +40,19 @@ const FLAWS: [Flaw; 5] = [
     other_generation,
 ];
 
-/// Rarely or mostly, all or none; the number is out of 64.
+/// Rarely or mostly, all or none.
 #[derive(Clone, Copy)]
 pub struct Chance(usize);
 
+const CERTAIN: usize = 64;
+
 impl Chance {
     pub fn any(rng: &mut Rng) -> Chance {
-        Chance(rng.pick(&[0, 1, 8, 32, 63, 64]))
+        Chance(rng.pick(&[0, 1, 8, CERTAIN / 2, CERTAIN - 1, CERTAIN]))
     }
 
     pub fn comes(self, rng: &mut Rng) -> bool {
-        rng.range(0, 63) < self.0
+        rng.range(0, CERTAIN - 1) < self.0
     }
 }
 

@@ -24,7 +24,7 @@ pub type Offer<'a> = &'a mut dyn FnMut(&[u8], Intent);
 
 /// As long as any shelf's block, and longer.
 pub const LONG_BLOCK: usize = LONGEST_BLOCK + 44;
-/// Too many, but none to a byte that does not hold them all.
+/// The least that is too many and that one byte takes for none.
 const WRAPPED_TO_NONE: usize = (MOST_ELEMENTS / 256 + 1) * 256;
 /// Within the limit of each type, though not within that of all.
 const MOST_OF_EACH: usize = MOST_TYPES * MOST_OF_TYPE;

@@ -129,20 +129,16 @@ impl Coverage {
         if answer.number != 0 {
             return;
         }
-        match call.letter {
-            letter if letter == WRITE_STATUS.letter => self.count_codes(&shelf_of(&inputs[0])),
-            letter if letter == APPLY_CONTROL.letter => {
-                let before = self.count_changed(call.name, lent, answer);
-                self.count_selects(&before, &inputs[0]);
-            }
-            letter if letter == APPLY_THRESHOLDS.letter => {
-                let before = self.count_changed(call.name, lent, answer);
-                self.count_sources(&before, &inputs[0]);
-            }
-            letter if letter == BUILD_CONTROL.letter => {
-                self.count_built(&shelf_of(&inputs[0]), answer);
-            }
-            _ => {}
+        if call.letter == WRITE_STATUS.letter {
+            self.count_codes(&shelf_of(&inputs[0]));
+        } else if call.letter == APPLY_CONTROL.letter {
+            let before = self.count_changed(call.name, lent, answer);
+            self.count_selects(&before, &inputs[0]);
+        } else if call.letter == APPLY_THRESHOLDS.letter {
+            let before = self.count_changed(call.name, lent, answer);
+            self.count_sources(&before, &inputs[0]);
+        } else if call.letter == BUILD_CONTROL.letter {
+            self.count_built(&shelf_of(&inputs[0]), answer);
         }
     }
 
@@ -182,7 +178,7 @@ impl Coverage {
         }
     }
 
-    /// The shelf as it was before.
+    /// Hands back the shelf as it was before.
     fn count_changed(&mut self, call: &'static str, lent: &[u8], answer: &Answer) -> Shelf {
         let (before, after) = (shelf_of(lent), shelf_of(&answer.bytes[1..]));
         let elements = zip(before.elements(), after.elements());

@@ -259,7 +259,7 @@ fn mix_in_one(
     let above = rng.range(2, 254) as u8;
     let mut mix = Mix::new(rng, pair);
     mix.take(pair.above, sources[0], above);
-    mix.take(pair.below, sources[1], above + step - 1);
+    mix.take(pair.below, sources[1], above - 1 + step);
     while !mix.stored.keep_order(pair.kind) {
         mix.stored_anew(rng, pair, sources);
     }

@@ -1,8 +1,9 @@
 //! One element of the status page by its fields, as its four bytes and as a record's entry.
 
 use crate::bits::{bit, flag};
-use crate::element::Limits;
-use crate::record::{Configuration, Kind, Settings};
+use crate::element::{Limits, Verdict};
+use crate::limits::{FASTEST, HIGHEST_CODE, HIGHEST_SPEED, STATUS_ENTRY_BYTES};
+use crate::record::{Configuration, Element, Kind, Settings};
 use std::iter::{once, repeat};
 
 const SPARE_BYTE: usize = 9;
@@ -24,96 +25,185 @@ impl Configuration {
     }
 }
 
-/// The fields that each kind of element shows. Limits that a type does not have are false.
+/// What one element of the page shows.
 #[derive(Clone, Copy, Debug, PartialEq, Eq)]
 pub enum Shown {
     Overall {
         code: u8,
     },
-    Cooling {
+    Individual {
         code: u8,
         settings: Settings,
+        fields: Fields,
+    },
+}
+
+/// The fields that only some types show. Limits that a type does not have are false.
+#[derive(Clone, Copy, Debug, PartialEq, Eq)]
+pub enum Fields {
+    Cooling {
         on: bool,
         off: bool,
         speed: u8,
         reading: u16,
     },
     Temperature {
-        code: u8,
-        settings: Settings,
         reading: u8,
         limits: Limits,
     },
     Voltage {
-        code: u8,
-        settings: Settings,
         reading: i16,
         limits: Limits,
     },
     Current {
-        code: u8,
-        settings: Settings,
         reading: i16,
         limits: Limits,
     },
 }
 
+impl Element {
+    /// What the status page shows of this element.
+    pub fn shown(&self) -> Shown {
+        let Verdict { code, limits } = self.verdict();
+        let fields = match *self {
+            Element::Cooling {
+                settings, reading, ..
+            } => Fields::Cooling {
+                on: settings.on,
+                off: !settings.on,
+                speed: settings.speed,
+                reading,
+            },
+            Element::Temperature { reading, .. } => {
+                let [_, reading] = reading.to_be_bytes();
+                Fields::Temperature { reading, limits }
+            }
+            Element::Voltage { reading, .. } => Fields::Voltage { reading, limits },
+            Element::Current { reading, .. } => Fields::Current { reading, limits },
+        };
+        Shown::Individual {
+            code: code.number(),
+            settings: self.settings(),
+            fields,
+        }
+    }
+
+    pub fn status(&self) -> [u8; 4] {
+        self.shown().element()
+    }
+}
+
 impl Shown {
-    /// None if the bytes have a bit set that the place does not name, or a code over 8.
+    /// None if the bytes have a bit set that the place does not name, or a code that is too high.
     pub fn from_element(place: Place, element: [u8; 4]) -> Option<Shown> {
         let shown = Shown::parse_element(place, element);
         (shown.in_range() && shown.element() == element).then_some(shown)
     }
 
     /// None if a field is out of range, or set where the place shows none.
-    pub fn from_entry(place: Place, entry: [u8; 16]) -> Option<Shown> {
+    pub fn from_entry(place: Place, entry: [u8; STATUS_ENTRY_BYTES]) -> Option<Shown> {
         let shown = Shown::parse_entry(place, entry);
         let mut looked_at = entry;
         looked_at[SPARE_BYTE] = 0;
         (shown.in_range() && shown.entry() == looked_at).then_some(shown)
     }
 
-    fn in_range(&self) -> bool {
+    pub fn code(&self) -> u8 {
         match *self {
-            Shown::Overall { code }
-            | Shown::Temperature { code, .. }
-            | Shown::Voltage { code, .. }
-            | Shown::Current { code, .. } => code <= 8,
-            Shown::Cooling {
-                code,
-                speed,
-                reading,
-                ..
-            } => code <= 8 && speed <= 7 && reading <= 2047,
+            Shown::Overall { code } | Shown::Individual { code, .. } => code,
         }
     }
 
-    /// Passes over the bits without a name.
-    fn parse_element(place: Place, [byte0, byte1, byte2, byte3]: [u8; 4]) -> Shown {
-        let code = byte0 % 16;
-        let settings = Settings {
-            prdfail: bit(byte0, 6),
-            disabled: bit(byte0, 5),
-            swap: bit(byte0, 4),
-            ident: bit(byte1, 7),
-            fail: bit(byte1, 6),
+    fn in_range(&self) -> bool {
+        let fields_in_range = match *self {
+            Shown::Individual {
+                fields: Fields::Cooling { speed, reading, .. },
+                ..
+            } => speed <= HIGHEST_SPEED && reading <= FASTEST,
+            _ => true,
         };
+        self.code() <= HIGHEST_CODE && fields_in_range
+    }
+
+    /// Passes over the bits without a name.
+    fn parse_element(place: Place, element: [u8; 4]) -> Shown {
+        let [byte0, byte1, _, byte3] = element;
+        let code = byte0 % 16;
         match place {
             Place::Overall => Shown::Overall { code },
-            Place::Individual(Kind::Cooling) => Shown::Cooling {
+            Place::Individual(kind) => Shown::Individual {
                 code,
                 settings: Settings {
-                    fail: bit(byte3, 6),
-                    ..settings
+                    prdfail: bit(byte0, 6),
+                    disabled: bit(byte0, 5),
+                    swap: bit(byte0, 4),
+                    ident: bit(byte1, 7),
+                    fail: match kind {
+                        Kind::Cooling => bit(byte3, 6),
+                        Kind::Temperature | Kind::Voltage | Kind::Current => bit(byte1, 6),
+                    },
                 },
+                fields: Fields::parse_element(kind, element),
+            },
+        }
+    }
+
+    /// The four bytes on the status page.
+    pub fn element(&self) -> [u8; 4] {
+        match *self {
+            Shown::Overall { code } => [code, 0, 0, 0],
+            Shown::Individual {
+                code,
+                settings,
+                fields,
+            } => fields.element(code, settings),
+        }
+    }
+
+    /// Passes over the fields that the place does not show.
+    fn parse_entry(place: Place, entry: [u8; STATUS_ENTRY_BYTES]) -> Shown {
+        let entry = Entry::parse(entry);
+        match place {
+            Place::Overall => Shown::Overall { code: entry.code },
+            Place::Individual(kind) => Shown::Individual {
+                code: entry.code,
+                settings: entry.settings,
+                fields: Fields::from_entry(kind, &entry),
+            },
+        }
+    }
+
+    /// The bytes in a status record.
+    pub fn entry(&self) -> [u8; STATUS_ENTRY_BYTES] {
+        let entry = match *self {
+            Shown::Overall { code } => Entry {
+                code,
+                ..Entry::default()
+            },
+            Shown::Individual {
+                code,
+                settings,
+                fields,
+            } => Entry {
+                code,
+                settings,
+                ..fields.entry()
+            },
+        };
+        entry.bytes()
+    }
+}
+
+impl Fields {
+    fn parse_element(kind: Kind, [_, byte1, byte2, byte3]: [u8; 4]) -> Fields {
+        match kind {
+            Kind::Cooling => Fields::Cooling {
                 on: bit(byte3, 5),
                 off: bit(byte3, 4),
                 speed: byte3 % 8,
                 reading: u16::from_be_bytes([byte1 % 8, byte2]),
             },
-            Place::Individual(Kind::Temperature) => Shown::Temperature {
-                code,
-                settings,
+            Kind::Temperature => Fields::Temperature {
                 reading: byte2,
                 limits: Limits {
                     critical_over: bit(byte3, 3),
@@ -122,9 +212,7 @@ impl Shown {
                     warning_under: bit(byte3, 0),
                 },
             },
-            Place::Individual(Kind::Voltage) => Shown::Voltage {
-                code,
-                settings,
+            Kind::Voltage => Fields::Voltage {
                 reading: i16::from_be_bytes([byte2, byte3]),
                 limits: Limits {
                     warning_over: bit(byte1, 3),
@@ -133,9 +221,7 @@ impl Shown {
                     critical_under: bit(byte1, 0),
                 },
             },
-            Place::Individual(Kind::Current) => Shown::Current {
-                code,
-                settings,
+            Kind::Current => Fields::Current {
                 reading: i16::from_be_bytes([byte2, byte3]),
                 limits: Limits {
                     warning_over: bit(byte1, 3),
@@ -146,103 +232,59 @@ impl Shown {
         }
     }
 
-    /// The four bytes on the status page.
-    pub fn element(&self) -> [u8; 4] {
-        match *self {
-            Shown::Overall { code } => [code, 0, 0, 0],
-            Shown::Cooling {
-                code,
-                settings,
+    fn element(self, code: u8, settings: Settings) -> [u8; 4] {
+        let byte0 =
+            flag(settings.prdfail, 6) + flag(settings.disabled, 5) + flag(settings.swap, 4) + code;
+        let (ident, fail) = (flag(settings.ident, 7), flag(settings.fail, 6));
+        match self {
+            Fields::Cooling {
                 on,
                 off,
                 speed,
                 reading,
             } => {
                 let [upper, lower] = reading.to_be_bytes();
-                [
-                    byte0(code, settings),
-                    flag(settings.ident, 7) + upper,
-                    lower,
-                    flag(settings.fail, 6) + flag(on, 5) + flag(off, 4) + speed,
-                ]
+                let byte3 = fail + flag(on, 5) + flag(off, 4) + speed;
+                [byte0, ident + upper, lower, byte3]
             }
-            Shown::Temperature {
-                code,
-                settings,
-                reading,
-                limits,
-            } => [
-                byte0(code, settings),
-                flag(settings.ident, 7) + flag(settings.fail, 6),
-                reading,
-                flag(limits.critical_over, 3)
+            Fields::Temperature { reading, limits } => {
+                let byte3 = flag(limits.critical_over, 3)
                     + flag(limits.warning_over, 2)
                     + flag(limits.critical_under, 1)
-                    + flag(limits.warning_under, 0),
-            ],
-            Shown::Voltage {
-                code,
-                settings,
-                reading,
-                limits,
+                    + flag(limits.warning_under, 0);
+                [byte0, ident + fail, reading, byte3]
             }
-            | Shown::Current {
-                code,
-                settings,
-                reading,
-                limits,
-            } => {
-                let byte1 = flag(settings.ident, 7)
-                    + flag(settings.fail, 6)
-                    + flag(limits.warning_over, 3)
+            Fields::Voltage { reading, limits } | Fields::Current { reading, limits } => {
+                let tripped = flag(limits.warning_over, 3)
                     + flag(limits.warning_under, 2)
                     + flag(limits.critical_over, 1)
                     + flag(limits.critical_under, 0);
                 let [upper, lower] = reading.to_be_bytes();
-                [byte0(code, settings), byte1, upper, lower]
+                [byte0, ident + fail + tripped, upper, lower]
             }
         }
     }
 
-    /// Passes over the fields that the place does not show.
-    fn parse_entry(place: Place, entry: [u8; 16]) -> Shown {
+    fn from_entry(kind: Kind, entry: &Entry) -> Fields {
         let Entry {
-            code,
-            settings,
-            on,
-            off,
-            speed,
-            reading,
-            limits,
-        } = Entry::parse(entry);
-        match place {
-            Place::Overall => Shown::Overall { code },
-            Place::Individual(Kind::Cooling) => Shown::Cooling {
-                code,
-                settings,
-                on,
-                off,
-                speed,
+            reading, limits, ..
+        } = *entry;
+        match kind {
+            Kind::Cooling => Fields::Cooling {
+                on: entry.on,
+                off: entry.off,
+                speed: entry.speed,
                 reading: u16::from_be_bytes(reading),
             },
-            Place::Individual(Kind::Temperature) => {
+            Kind::Temperature => {
                 let [_, reading] = reading;
-                Shown::Temperature {
-                    code,
-                    settings,
-                    reading,
-                    limits,
-                }
+                Fields::Temperature { reading, limits }
             }
-            Place::Individual(Kind::Voltage) => Shown::Voltage {
-                code,
-                settings,
+            Kind::Voltage => Fields::Voltage {
                 reading: i16::from_be_bytes(reading),
                 limits,
             },
-            Place::Individual(Kind::Current) => Shown::Current {
-                code,
-                settings,
+            Kind::Current => Fields::Current {
                 reading: i16::from_be_bytes(reading),
                 limits: Limits {
                     warning_under: false,
@@ -253,66 +295,33 @@ impl Shown {
         }
     }
 
-    /// The sixteen bytes in a status record.
-    pub fn entry(&self) -> [u8; 16] {
-        let entry = match *self {
-            Shown::Overall { code } => Entry {
-                code,
-                ..Entry::default()
-            },
-            Shown::Cooling {
-                code,
-                settings,
+    /// Without code and settings.
+    fn entry(self) -> Entry {
+        match self {
+            Fields::Cooling {
                 on,
                 off,
                 speed,
                 reading,
             } => Entry {
-                code,
-                settings,
                 on,
                 off,
                 speed,
                 reading: reading.to_be_bytes(),
                 ..Entry::default()
             },
-            Shown::Temperature {
-                code,
-                settings,
-                reading,
-                limits,
-            } => Entry {
-                code,
-                settings,
-                reading: u16::from(reading).to_be_bytes(),
+            Fields::Temperature { reading, limits } => Entry {
+                reading: [0, reading],
                 limits,
                 ..Entry::default()
             },
-            Shown::Voltage {
-                code,
-                settings,
-                reading,
-                limits,
-            }
-            | Shown::Current {
-                code,
-                settings,
-                reading,
-                limits,
-            } => Entry {
-                code,
-                settings,
+            Fields::Voltage { reading, limits } | Fields::Current { reading, limits } => Entry {
                 reading: reading.to_be_bytes(),
                 limits,
                 ..Entry::default()
             },
-        };
-        entry.bytes()
+        }
     }
-}
-
-fn byte0(code: u8, settings: Settings) -> u8 {
-    flag(settings.prdfail, 6) + flag(settings.disabled, 5) + flag(settings.swap, 4) + code
 }
 
 /// The fields of a record's entry, whatever the place.
@@ -329,7 +338,7 @@ struct Entry {
 
 impl Entry {
     /// A flag is set if its byte is 1.
-    fn parse(bytes: [u8; 16]) -> Entry {
+    fn parse(bytes: [u8; STATUS_ENTRY_BYTES]) -> Entry {
         let [code, settings @ .., on, off, speed, _, upper, lower, critical_over, warning_over, warning_under, critical_under] =
             bytes;
         let [prdfail, disabled, swap, ident, fail] = settings.map(is_one);
@@ -355,7 +364,7 @@ impl Entry {
         }
     }
 
-    fn bytes(&self) -> [u8; 16] {
+    fn bytes(&self) -> [u8; STATUS_ENTRY_BYTES] {
         let [upper, lower] = self.reading;
         [
             self.code,

@@ -1,68 +1,88 @@
 //! How often the calls compared brought up each thing that they can.
 
-use super::builder;
 use super::calls::{self, Answer, APPLY_CONTROL, APPLY_THRESHOLDS, BUILD_CONTROL, WRITE_STATUS};
-use super::cases::Case;
+use super::cases::case::Case;
 use super::status::Status;
 use super::{ElementPage, TypeElements};
 use crate::bits::{bit, flag};
 use crate::record::{self, Group, Kind, Shelf};
-use crate::shown::Shown;
+use crate::shown::Place;
 use std::collections::BTreeMap;
 use std::iter::zip;
 
 const LEAST_OF_EACH: usize = 100;
 
-/// The codes that a status page of a shelf can show.
-const CODES: [(&str, &[u8]); 5] = [
-    ("overall", &[0, 1, 2, 3, 6]),
-    ("cooling", &[1, 2]),
-    ("temperature", &[1, 2, 3, 6]),
-    ("voltage", &[1, 2, 3]),
-    ("current", &[1, 2, 3]),
-];
+/// The numbers that can come up under each name.
+struct Table<'a> {
+    title: &'a str,
+    possible: &'a [(&'static str, &'a [u8])],
+}
 
-/// None, one, or more.
-const CHANGED: [(&str, &[u8]); 2] = [
-    ("apply_control", &[0, 1, 2]),
-    ("apply_thresholds", &[0, 1, 2]),
-];
+const CODES: Table = Table {
+    title: "codes on the status pages written",
+    possible: &[
+        ("overall", &[0, 1, 2, 3, 6]),
+        ("cooling", &[1, 2]),
+        ("temperature", &[1, 2, 3, 6]),
+        ("voltage", &[1, 2, 3]),
+        ("current", &[1, 2, 3]),
+    ],
+};
 
-/// 2 for the individual element's SELECT, 1 for the overall one's.
-const SELECTS: [(&str, &[u8]); 4] = [
-    ("cooling", &[0, 1, 2, 3]),
-    ("temperature", &[0, 1, 2, 3]),
-    ("voltage", &[0, 1, 2, 3]),
-    ("current", &[0, 1, 2, 3]),
-];
+const CHANGED: Table = Table {
+    title: "accepted pages that changed no, one, more elements",
+    possible: &[
+        ("apply_control", &[0, 1, 2]),
+        ("apply_thresholds", &[0, 1, 2]),
+    ],
+};
 
-/// 4 for a nonzero individual byte, 2 for a nonzero overall one, 1 for a nonzero stored one.
-const SOURCES: [(&str, &[u8]); 4] = [
-    ("cooling", &[0]),
-    ("temperature", &[0, 1, 2, 3, 4, 5, 6, 7]),
-    ("voltage", &[0, 1, 2, 3, 4, 5, 6, 7]),
-    ("current", &[0, 1, 2, 3, 4, 5, 6, 7]),
-];
+const SELECTS: Table = Table {
+    title: "elements by SELECT, individual 2, overall 1",
+    possible: &[
+        ("cooling", &[0, 1, 2, 3]),
+        ("temperature", &[0, 1, 2, 3]),
+        ("voltage", &[0, 1, 2, 3]),
+        ("current", &[0, 1, 2, 3]),
+    ],
+};
 
-/// None, one, two, or more.
-const BUILT: [(&str, &[u8]); 1] = [("SELECTs", &[0, 1, 2, 3])];
+const SOURCES: Table = Table {
+    title: "thresholds by nonzero bytes, individual 4, overall 2, stored 1",
+    possible: &[
+        ("cooling", &[0]),
+        ("temperature", &[0, 1, 2, 3, 4, 5, 6, 7]),
+        ("voltage", &[0, 1, 2, 3, 4, 5, 6, 7]),
+        ("current", &[0, 1, 2, 3, 4, 5, 6, 7]),
+    ],
+};
 
-/// 2 for any individual element's SELECT, 1 for the overall one's. A type without elements has none.
-const BUILT_TYPES: [(&str, &[u8]); 5] = [
-    ("cooling", &[0, 1, 2, 3]),
-    ("temperature", &[0, 1, 2, 3]),
-    ("voltage", &[0, 1, 2, 3]),
-    ("current", &[0, 1, 2, 3]),
-    ("without elements", &[0]),
-];
+const BUILT: Table = Table {
+    title: "pages built with no, one, two, more SELECTs",
+    possible: &[("SELECTs", &[0, 1, 2, 3])],
+};
 
-/// 2 for RST SWAP, 1 for a speed code other than 0.
-const BUILT_OVERALL: [(&str, &[u8]); 4] = [
-    ("cooling", &[0, 1, 2, 3]),
-    ("temperature", &[0, 2]),
-    ("voltage", &[0, 2]),
-    ("current", &[0, 2]),
-];
+/// A type without elements has no SELECT.
+const BUILT_TYPES: Table = Table {
+    title: "types on pages built by SELECT, any individual 2, overall 1",
+    possible: &[
+        ("cooling", &[0, 1, 2, 3]),
+        ("temperature", &[0, 1, 2, 3]),
+        ("voltage", &[0, 1, 2, 3]),
+        ("current", &[0, 1, 2, 3]),
+        ("without elements", &[0]),
+    ],
+};
+
+const BUILT_OVERALL: Table = Table {
+    title: "overall SELECTs on pages built, with RST SWAP 2, a speed code 1",
+    possible: &[
+        ("cooling", &[0, 1, 2, 3]),
+        ("temperature", &[0, 2]),
+        ("voltage", &[0, 2]),
+        ("current", &[0, 2]),
+    ],
+};
 
 /// How often each number came up under each name.
 #[derive(Default)]
@@ -86,9 +106,10 @@ impl Tally {
     }
 
     /// One line for each name; false if a number that can come up did so too rarely.
-    fn print(&self, possible: &[(&'static str, &[u8])]) -> bool {
+    fn print(&self, table: &Table) -> bool {
+        println!("pages: {}", table.title);
         let mut enough = true;
-        for (name, numbers) in possible {
+        for (name, numbers) in table.possible {
             print!("  {name:21}");
             for number in *numbers {
                 let times = self.0.get(&(*name, *number)).copied().unwrap_or(0);
@@ -111,62 +132,35 @@ impl Coverage {
         if call.letter == WRITE_STATUS.letter {
             self.count_codes(&shelf_of(&inputs[0]));
         } else if call.letter == APPLY_CONTROL.letter {
-            let (before, after) = (shelf_of(lent), shelf_of(&answer.bytes[1..]));
-            self.count_changed(call.name, &before, &after);
+            let before = self.count_changed(call.name, lent, answer);
             self.count_selects(&before, &inputs[0]);
         } else if call.letter == APPLY_THRESHOLDS.letter {
-            let (before, after) = (shelf_of(lent), shelf_of(&answer.bytes[1..]));
-            self.count_changed(call.name, &before, &after);
+            let before = self.count_changed(call.name, lent, answer);
             self.count_sources(&before, &inputs[0]);
         } else if call.letter == BUILD_CONTROL.letter {
-            self.count_built(
-                &shelf_of(&inputs[0]),
-                &answer.bytes[9..][..answer.written()],
-            );
+            self.count_built(&shelf_of(&inputs[0]), answer);
         }
     }
 
     /// False if something that can come up did so too rarely.
     pub fn print(&self) -> bool {
-        let outcomes = calls::ALL.map(|call| (call.name, call.outcomes));
-        let told: [(&str, &Tally, &[(&'static str, &[u8])]); 8] = [
-            ("by outcome", &self.outcomes, &outcomes),
-            ("codes on the status pages written", &self.codes, &CODES),
-            (
-                "accepted pages that changed no, one, more elements",
-                &self.changed,
-                &CHANGED,
-            ),
-            (
-                "elements by SELECT, individual 2, overall 1",
-                &self.selects,
-                &SELECTS,
-            ),
-            (
-                "thresholds by nonzero bytes, individual 4, overall 2, stored 1",
-                &self.sources,
-                &SOURCES,
-            ),
-            (
-                "pages built with no, one, two, more SELECTs",
-                &self.built,
-                &BUILT,
-            ),
-            (
-                "types on pages built by SELECT, any individual 2, overall 1",
-                &self.built_types,
-                &BUILT_TYPES,
-            ),
-            (
-                "overall SELECTs on pages built, with RST SWAP 2, a speed code 1",
-                &self.built_overall,
-                &BUILT_OVERALL,
-            ),
+        let outcomes = Table {
+            title: "by outcome",
+            possible: &calls::ALL.map(|call| (call.name, call.outcomes)),
+        };
+        let tallies = [
+            (&self.outcomes, &outcomes),
+            (&self.codes, &CODES),
+            (&self.changed, &CHANGED),
+            (&self.selects, &SELECTS),
+            (&self.sources, &SOURCES),
+            (&self.built, &BUILT),
+            (&self.built_types, &BUILT_TYPES),
+            (&self.built_overall, &BUILT_OVERALL),
         ];
         let mut enough = true;
-        for (title, tally, possible) in told {
-            println!("pages: {title}");
-            enough &= tally.print(possible);
+        for (tally, table) in tallies {
+            enough &= tally.print(table);
         }
         if !enough {
             println!("too few: at least {LEAST_OF_EACH} of each are wanted");
@@ -175,21 +169,22 @@ impl Coverage {
     }
 
     fn count_codes(&mut self, shelf: &Shelf) {
-        for shown in Status::of(shelf).shown {
-            match shown {
-                Shown::Overall { code } => self.codes.count("overall", code),
-                Shown::Cooling { code, .. } => self.codes.count("cooling", code),
-                Shown::Temperature { code, .. } => self.codes.count("temperature", code),
-                Shown::Voltage { code, .. } => self.codes.count("voltage", code),
-                Shown::Current { code, .. } => self.codes.count("current", code),
-            }
+        for (place, shown) in zip(shelf.configuration().places(), Status::of(shelf).shown) {
+            let name = match place {
+                Place::Overall => "overall",
+                Place::Individual(kind) => kind_name(kind),
+            };
+            self.codes.count(name, shown.code());
         }
     }
 
-    fn count_changed(&mut self, call: &'static str, before: &Shelf, after: &Shelf) {
+    /// Hands back the shelf as it was before.
+    fn count_changed(&mut self, call: &'static str, lent: &[u8], answer: &Answer) -> Shelf {
+        let (before, after) = (shelf_of(lent), shelf_of(&answer.bytes[1..]));
         let elements = zip(before.elements(), after.elements());
         let changed = elements.filter(|(before, after)| before != after).count();
         self.changed.count(call, changed.min(2) as u8);
+        before
     }
 
     fn count_selects(&mut self, shelf: &Shelf, page: &[u8]) {
@@ -201,9 +196,9 @@ impl Coverage {
         }
     }
 
-    fn count_built(&mut self, shelf: &Shelf, page: &[u8]) {
-        self.built
-            .count("SELECTs", builder::selects(page).min(3) as u8);
+    fn count_built(&mut self, shelf: &Shelf, answer: &Answer) {
+        self.built.count("SELECTs", answer.selects().min(3) as u8);
+        let page = &answer.bytes[9..][..answer.written()];
         for (group, asked) in by_group(shelf, page) {
             let name = if group.elements.is_empty() {
                 "without elements"

@@ -61,13 +61,35 @@ static inline const char *ses_meaning(uint8_t number)
 /* For each type one overall element, and all individual elements. */
 #define SES_MOST_ENTRIES 72
 
-/* One status element, field by field. Flags are 0 or 1; the reading has its high byte first. An overall
- * element shows its code alone. */
+/* What a status element shows, field by field. An entry has four bytes that all types have and twelve that
+ * its type lays out: the fields of bytes 1 to 3 of the element in page order, then zeros. Flags are 0 or 1; a
+ * number of two bytes has its high byte first. An overall element shows its code alone, all else is zero.
+ * Written again, a byte `none` that is not zero is a field set where the type shows none (6). */
+struct ses_cooling {
+    uint8_t ident, speed[2], fail, rqsted_on, off, speed_code, none[5];
+};
+
+struct ses_temperature {
+    uint8_t ident, fail, temperature, ot_failure, ot_warning, ut_failure, ut_warning, none[5];
+};
+
+struct ses_voltage {
+    uint8_t ident, fail, warn_over, warn_under, crit_over, crit_under, voltage[2], none[4];
+};
+
+struct ses_current {
+    uint8_t ident, fail, warn_over, crit_over, current[2], none[6];
+};
+
 struct ses_shown {
     uint8_t code, prdfail, disabled, swap;
-    uint8_t ident, fail, on, off;
-    uint8_t speed, spare, reading[2];
-    uint8_t high_critical, high_warning, low_warning, low_critical;
+    union {
+        struct ses_cooling cooling;
+        struct ses_temperature temperature;
+        struct ses_voltage voltage;
+        struct ses_current current;
+        uint8_t bytes[12];
+    } of;
 };
 
 /* A status page. The entries stand as on the page: for each type its overall element, then its elements.

@@ -1,11 +1,15 @@
 //! How often the calls compared brought up each thing that they can.
 
-use super::calls::{self, Answer, APPLY_CONTROL, APPLY_THRESHOLDS, BUILD_CONTROL, WRITE_STATUS};
+use super::calls::{
+    self, Answer, APPLY_CONTROL, APPLY_THRESHOLDS, BUILD_CONTROL, READ_STATUS, REWRITE_STATUS,
+    WRITE_STATUS,
+};
 use super::cases::case::Case;
 use super::status::Status;
-use super::{ElementPage, TypeElements};
+use super::{parts, ElementPage, Refusal, TypeElements};
 use crate::bits::{bit, flag};
-use crate::record::{self, Group, Kind, Shelf};
+use crate::limits::STATUS_ENTRY_BYTES;
+use crate::record::{self, Configuration, Group, Kind, Shelf};
 use crate::shown::Place;
 use std::collections::BTreeMap;
 use std::iter::zip;
@@ -26,6 +30,51 @@ const CODES: Table = Table {
         ("temperature", &[1, 2, 3, 6]),
         ("voltage", &[1, 2, 3]),
         ("current", &[1, 2, 3]),
+    ],
+};
+
+/// The bytes of an entry that are a field of its place.
+const FIELDS: &[(&str, &[u8])] = &[
+    ("overall", &[0]),
+    ("cooling", &[0, 1, 2, 3, 4, 5, 6, 7, 8, 9, 10]),
+    ("temperature", &[0, 1, 2, 3, 4, 5, 6, 7, 8, 9, 10]),
+    ("voltage", &[0, 1, 2, 3, 4, 5, 6, 7, 8, 9, 10, 11]),
+    ("current", &[0, 1, 2, 3, 4, 5, 6, 7, 8, 9]),
+];
+
+const READ: Table = Table {
+    title: "status fields read with their largest value, by byte of the entry",
+    possible: FIELDS,
+};
+
+const REWRITTEN: Table = Table {
+    title: "status fields written again with their largest value, by byte of the entry",
+    possible: FIELDS,
+};
+
+/// Without the bytes that may have any value.
+const OUT_OF_RANGE: Table = Table {
+    title: "status records refused for one field just out of range, by byte of the entry",
+    possible: &[
+        ("overall", &[0]),
+        ("cooling", &[0, 1, 2, 3, 4, 5, 7, 8, 9, 10]),
+        ("temperature", &[0, 1, 2, 3, 4, 5, 7, 8, 9, 10]),
+        ("voltage", &[0, 1, 2, 3, 4, 5, 6, 7, 8, 9]),
+        ("current", &[0, 1, 2, 3, 4, 5, 6, 7]),
+    ],
+};
+
+const NOT_SHOWN: Table = Table {
+    title: "status records refused for one byte that shows nothing, by byte of the entry",
+    possible: &[
+        (
+            "overall",
+            &[1, 2, 3, 4, 5, 6, 7, 8, 9, 10, 11, 12, 13, 14, 15],
+        ),
+        ("cooling", &[11, 12, 13, 14, 15]),
+        ("temperature", &[11, 12, 13, 14, 15]),
+        ("voltage", &[12, 13, 14, 15]),
+        ("current", &[10, 11, 12, 13, 14, 15]),
     ],
 };
 
@@ -92,6 +141,10 @@ struct Tally(BTreeMap<(&'static str, u8), usize>);
 pub struct Coverage {
     outcomes: Tally,
     codes: Tally,
+    read: Tally,
+    rewritten: Tally,
+    out_of_range: Tally,
+    not_shown: Tally,
     changed: Tally,
     selects: Tally,
     sources: Tally,
@@ -103,6 +156,15 @@ pub struct Coverage {
 impl Tally {
     fn count(&mut self, name: &'static str, number: u8) {
         *self.0.entry((name, number)).or_insert(0) += 1;
+    }
+
+    /// The fields of a status record that have their largest value.
+    fn count_largest(&mut self, configuration: &[u8], record: &[u8]) {
+        for byte in bytes_of_entries(configuration, record) {
+            if byte.most != 0 && byte.value == byte.most {
+                self.count(place_name(byte.place), byte.at);
+            }
+        }
     }
 
     /// One line for each name; false if a number that can come up did so too rarely.
@@ -126,11 +188,18 @@ impl Coverage {
     pub fn count(&mut self, case: &Case, answer: &Answer) {
         let Case { call, inputs, lent } = case;
         self.outcomes.count(call.name, answer.number);
+        if call.letter == REWRITE_STATUS.letter && answer.number == Refusal::NotAllowed as u8 {
+            self.count_fault(&inputs[0], &inputs[1]);
+        }
         if answer.number != 0 {
             return;
         }
         if call.letter == WRITE_STATUS.letter {
             self.count_codes(&shelf_of(&inputs[0]));
+        } else if call.letter == READ_STATUS.letter {
+            self.read.count_largest(&inputs[0], &answer.bytes[1..]);
+        } else if call.letter == REWRITE_STATUS.letter {
+            self.rewritten.count_largest(&inputs[0], &inputs[1]);
         } else if call.letter == APPLY_CONTROL.letter {
             let before = self.count_changed(call.name, lent, answer);
             self.count_selects(&before, &inputs[0]);
@@ -151,6 +220,10 @@ impl Coverage {
         let tallies = [
             (&self.outcomes, &outcomes),
             (&self.codes, &CODES),
+            (&self.read, &READ),
+            (&self.rewritten, &REWRITTEN),
+            (&self.out_of_range, &OUT_OF_RANGE),
+            (&self.not_shown, &NOT_SHOWN),
             (&self.changed, &CHANGED),
             (&self.selects, &SELECTS),
             (&self.sources, &SOURCES),
@@ -170,11 +243,21 @@ impl Coverage {
 
     fn count_codes(&mut self, shelf: &Shelf) {
         for (place, shown) in zip(shelf.configuration().places(), Status::of(shelf).shown) {
-            let name = match place {
-                Place::Overall => "overall",
-                Place::Individual(kind) => kind_name(kind),
-            };
-            self.codes.count(name, shown.code());
+            self.codes.count(place_name(place), shown.code());
+        }
+    }
+
+    /// Of a status record with a byte too large, if it is the only one.
+    fn count_fault(&mut self, configuration: &[u8], record: &[u8]) {
+        let bytes = bytes_of_entries(configuration, record);
+        let mut faults = bytes.iter().filter(|byte| byte.value > byte.most);
+        if let (Some(fault), None, [0 | 1, 0 | 1, ..]) = (faults.next(), faults.next(), record) {
+            let name = place_name(fault.place);
+            if fault.most == 0 {
+                self.not_shown.count(name, fault.at);
+            } else if fault.value == fault.most + 1 {
+                self.out_of_range.count(name, fault.at);
+            }
         }
     }
 
@@ -244,6 +327,38 @@ fn by_group<'a>(shelf: &'a Shelf, page: &[u8]) -> impl Iterator<Item = (&'a Grou
     let configuration = shelf.configuration();
     let page = ElementPage::read(page[0], &configuration, page).expect("an accepted page");
     zip(&shelf.groups, page.by_type(&configuration))
+}
+
+/// A byte of an entry, and the largest value that its place allows there, 0 if it shows nothing.
+struct EntryByte {
+    place: Place,
+    at: u8,
+    value: u8,
+    most: u8,
+}
+
+/// Of a status record that has as many entries as the configuration has places.
+fn bytes_of_entries(configuration: &[u8], record: &[u8]) -> Vec<EntryByte> {
+    let configuration = Configuration::read(configuration).expect("a well-formed configuration");
+    let (_, entries) =
+        parts::<STATUS_ENTRY_BYTES>(&configuration, record).expect("an entry for each place");
+    let bytes = zip(configuration.places(), entries).flat_map(|(place, entry)| {
+        let values = zip(0.., zip(entry, place.largest()));
+        values.map(move |(at, (value, most))| EntryByte {
+            place,
+            at,
+            value,
+            most,
+        })
+    });
+    bytes.collect()
+}
+
+fn place_name(place: Place) -> &'static str {
+    match place {
+        Place::Overall => "overall",
+        Place::Individual(kind) => kind_name(kind),
+    }
 }
 
 fn kind_name(kind: Kind) -> &'static str {

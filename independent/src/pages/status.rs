@@ -84,9 +84,7 @@ fn overall(group: &Group) -> Shown {
         let mut elements = group.elements.iter();
         elements.any(|element| element.verdict().code == *code)
     });
-    Shown::Overall {
-        code: worst.map_or(0, Code::number),
-    }
+    Shown::overall(worst.map_or(0, Code::number))
 }
 
 fn all_allowed<T>(

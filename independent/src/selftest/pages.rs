@@ -4,6 +4,7 @@ use super::checks::Checks;
 use super::examples::{
     block_a, current, fan, fan_at, fan_like, fans_a, group, high_critical, high_warning,
     largest_shelf, low_critical, plain, shelf_a, shelf_a_of, temperature, voltage, with, BEFORE,
+    SWAP,
 };
 use crate::limits::{
     configuration_page_bytes, CONFIGURATION_BYTES, FASTEST, HIGHEST_CODE, HIGHEST_SPEED,
@@ -20,6 +21,9 @@ const STATUS_A: [u8; 24] = [
     0x01, 0x00, 0x78, 0x23, 0x01, 0x00, 0x78, 0x23,
 ];
 
+/// Of a status page with two elements, the overall one and another.
+const HEADER_OF_TWO: [u8; 8] = [0x02, 0x00, 0x00, 0x0C, 0x00, 0x00, 0x00, 0x07];
+
 const THRESHOLDS_A: [u8; 24] = [
     0x05, 0x00, 0x00, 0x14, 0x00, 0x00, 0x00, 0x07, 0, 0, 0, 0, 0, 0, 0, 0, 0, 0, 0, 0, 0, 0, 0, 0,
 ];
@@ -31,6 +35,7 @@ pub fn check(checks: &mut Checks) {
     status_headers(checks);
     status_fields(checks);
     statuses_handed_back(checks);
+    fields_handed_back(checks);
     statuses_rewritten(checks);
     fields_rewritten(checks);
     worst_codes(checks);
@@ -237,8 +242,8 @@ fn status_fields(checks: &mut Checks) {
         let shelf = shelf_a_of(kind, vec![plain(kind)]);
         let configuration = shelf.configuration().block();
         let page = |element: u32, overall: u32| {
-            let header = [0x02, 0x00, 0x00, 0x0C, 0x00, 0x00, 0x00, 0x07];
-            [&header[..], &overall.to_be_bytes(), &element.to_be_bytes()].concat()
+            let elements = [overall.to_be_bytes(), element.to_be_bytes()].concat();
+            [&HEADER_OF_TWO[..], &elements].concat()
         };
         let number = |page: &[u8]| read_status(&configuration, page, &[0; STATUS_BYTES]).number;
         for place in 0..32 {
@@ -261,7 +266,7 @@ fn status_fields(checks: &mut Checks) {
 }
 
 const OVERALL_OK: [u8; STATUS_ENTRY_BYTES] = [1, 0, 0, 0, 0, 0, 0, 0, 0, 0, 0, 0, 0, 0, 0, 0];
-const FAN_OF_A: [u8; STATUS_ENTRY_BYTES] = [1, 0, 0, 0, 0, 0, 1, 0, 3, 0, 0, 120, 0, 0, 0, 0];
+const FAN_OF_A: [u8; STATUS_ENTRY_BYTES] = [1, 0, 0, 0, 0, 0, 120, 0, 1, 0, 3, 0, 0, 0, 0, 0];
 
 fn record_a() -> Vec<u8> {
     let mut record = vec![0, 0, 0, 4];
@@ -273,8 +278,8 @@ fn record_a() -> Vec<u8> {
     record
 }
 
-/// An element of each type, and its entry.
-fn entries_of_elements() -> [(Element, [u8; STATUS_ENTRY_BYTES]); 4] {
+/// Elements of each type, with all flags that they can show at once, and their entries.
+fn entries_of_elements() -> [(Element, [u8; STATUS_ENTRY_BYTES]); 6] {
     let all = Settings {
         prdfail: true,
         disabled: true,
@@ -286,23 +291,21 @@ fn entries_of_elements() -> [(Element, [u8; STATUS_ENTRY_BYTES]); 4] {
     if let Element::Cooling { settings, .. } = &mut stopped {
         settings.on = false;
     }
+    let slow = fan_like(SWAP, 1, 258);
     let cold = temperature(9, Thresholds::from_bytes([8, 8, 10, 10]));
     let negative = voltage(-1, 1200, Thresholds::from_bytes([0, 0, 20, 20]));
+    let high = voltage(1321, 1200, Thresholds::from_bytes([20, 0, 0, 0]));
     let above = current(1321, 1200, Thresholds::from_bytes([20, 20, 0, 0]));
     [
-        (
-            stopped,
-            [1, 1, 1, 1, 1, 1, 0, 1, 7, 0, 0x07, 0xFF, 0, 0, 0, 0],
-        ),
-        (cold, [2, 0, 0, 0, 0, 0, 0, 0, 0, 0, 0x00, 0x09, 1, 1, 1, 1]),
+        (stopped, [1, 1, 1, 1, 1, 7, 255, 1, 0, 1, 7, 0, 0, 0, 0, 0]),
+        (slow, [1, 0, 0, 1, 0, 1, 2, 0, 1, 0, 1, 0, 0, 0, 0, 0]),
+        (cold, [2, 0, 0, 0, 0, 0, 9, 1, 1, 1, 1, 0, 0, 0, 0, 0]),
         (
             negative,
-            [2, 0, 0, 0, 0, 0, 0, 0, 0, 0, 0xFF, 0xFF, 0, 0, 1, 1],
+            [2, 0, 0, 0, 0, 0, 0, 1, 0, 1, 255, 255, 0, 0, 0, 0],
         ),
-        (
-            above,
-            [2, 0, 0, 0, 0, 0, 0, 0, 0, 0, 0x05, 0x29, 1, 1, 0, 0],
-        ),
+        (high, [2, 0, 0, 0, 0, 0, 0, 0, 1, 0, 5, 41, 0, 0, 0, 0]),
+        (above, [2, 0, 0, 0, 0, 0, 1, 1, 5, 41, 0, 0, 0, 0, 0, 0]),
     ]
 }
 
@@ -338,8 +341,11 @@ fn statuses_rewritten(checks: &mut Checks) {
         rewrite_status(&configuration, &record, &[BEFORE; 30]),
         written(&STATUS_A, 30),
     );
-    let spare = with(&record, 4 + 9, &[0xFF]);
-    checks.equal("spare byte", number(&spare, 24), 0);
+    let behind = with(&record, 4 + 4 * STATUS_ENTRY_BYTES, &[0xFF]);
+    checks.equal("behind the last entry", number(&behind, 24), 0);
+    let unshown = with(&record, 4 + 4 * STATUS_ENTRY_BYTES - 1, &[0xFF]);
+    checks.equal("last byte of the last entry", number(&unshown, 24), 6);
+    checks.equal("the same, short", number(&unshown, 0), 6);
     let five = with(&record, 3, &[5]);
     checks.equal("five entries", number(&five, 24), 9);
     checks.equal("five entries, CRIT 2", number(&with(&five, 1, &[2]), 0), 9);
@@ -349,37 +355,79 @@ fn statuses_rewritten(checks: &mut Checks) {
     checks.equal("broken configuration", broken, not_written(1, 3));
 }
 
-/// What each field of an entry may hold, in the overall entry and in a fan's.
+/// The lowest bit of each field of an element, byte 0 highest, in the order of its entry.
+const LOWEST_BITS: [(Kind, &[u32]); 4] = [
+    (Kind::Cooling, &[24, 30, 29, 28, 23, 16, 8, 6, 5, 4, 0]),
+    (Kind::Temperature, &[24, 30, 29, 28, 23, 22, 8, 3, 2, 1, 0]),
+    (
+        Kind::Voltage,
+        &[24, 30, 29, 28, 23, 22, 19, 18, 17, 16, 8, 0],
+    ),
+    (Kind::Current, &[24, 30, 29, 28, 23, 22, 19, 17, 8, 0]),
+];
+
+/// Each field is 1 while the others are 0.
+fn fields_handed_back(checks: &mut Checks) {
+    for (kind, bits) in LOWEST_BITS {
+        let shelf = shelf_a_of(kind, vec![plain(kind)]);
+        let configuration = shelf.configuration().block();
+        for (at, bit) in bits.iter().enumerate() {
+            let element = (1_u32 << bit).to_be_bytes();
+            let page = [&HEADER_OF_TWO[..], &[0; 4], &element].concat();
+            let answer = read_status(&configuration, &page, &[BEFORE; STATUS_BYTES]);
+            let entry = with(&[0; STATUS_ENTRY_BYTES], at, &[1]);
+            let what = format!("{kind:?}, field {at} is 1");
+            checks.equal(&what, &answer.bytes[21..37], &entry[..]);
+            let again = rewrite_status(&configuration, &answer.bytes[1..], &[BEFORE; 16]);
+            checks.equal(&what, again, written(&page, 16));
+        }
+    }
+}
+
+/// The largest value of each byte of an entry, 0 where the type shows nothing.
+fn largest_values() -> [(Kind, [u8; STATUS_ENTRY_BYTES]); 4] {
+    let (code, speed_code) = (HIGHEST_CODE, HIGHEST_SPEED);
+    let [upper, lower] = FASTEST.to_be_bytes();
+    [
+        (
+            Kind::Cooling,
+            [
+                code, 1, 1, 1, 1, upper, lower, 1, 1, 1, speed_code, 0, 0, 0, 0, 0,
+            ],
+        ),
+        (
+            Kind::Temperature,
+            [code, 1, 1, 1, 1, 1, 255, 1, 1, 1, 1, 0, 0, 0, 0, 0],
+        ),
+        (
+            Kind::Voltage,
+            [code, 1, 1, 1, 1, 1, 1, 1, 1, 1, 255, 255, 0, 0, 0, 0],
+        ),
+        (
+            Kind::Current,
+            [code, 1, 1, 1, 1, 1, 1, 1, 255, 255, 0, 0, 0, 0, 0, 0],
+        ),
+    ]
+}
+
+/// All bytes of both entries at their largest, and then one of them with each value.
 fn fields_rewritten(checks: &mut Checks) {
-    let (configuration, record) = (configuration_block_a(), record_a());
-    let number = |record: &[u8]| rewrite_status(&configuration, record, &[BEFORE; 24]).number;
-    let overall_fields = (1..STATUS_ENTRY_BYTES).filter(|field| *field != 9);
-    for field in overall_fields {
-        let set = with(&record, 4 + field, &[1]);
-        checks.equal("overall entry with more", number(&set), 6);
-    }
-    for (field, most) in [
-        (0, HIGHEST_CODE),
-        (1, 1),
-        (2, 1),
-        (3, 1),
-        (4, 1),
-        (5, 1),
-        (6, 1),
-        (7, 1),
-        (8, HIGHEST_SPEED),
-        (10, FASTEST.to_be_bytes()[0]),
-    ] {
-        let (largest, larger) = (
-            with(&record, 20 + field, &[most]),
-            with(&record, 20 + field, &[most + 1]),
-        );
-        checks.equal("largest value", number(&largest), 0);
-        checks.equal("larger value", number(&larger), 6);
-    }
-    for field in 12..STATUS_ENTRY_BYTES {
-        let set = with(&record, 20 + field, &[1]);
-        checks.equal("limit of a fan", number(&set), 6);
+    let overall = with(&[0; STATUS_ENTRY_BYTES], 0, &[HIGHEST_CODE]);
+    for (kind, individual) in largest_values() {
+        let shelf = shelf_a_of(kind, vec![plain(kind)]);
+        let configuration = shelf.configuration().block();
+        let entries = [&overall[..], &individual].concat();
+        let mut record = [&[1, 1, 0, 2][..], &entries].concat();
+        record.resize(STATUS_BYTES, BEFORE);
+        for (at, most) in entries.iter().enumerate() {
+            for value in 0..=0xFF {
+                let changed = with(&record, 4 + at, &[value]);
+                let answer = rewrite_status(&configuration, &changed, &[BEFORE; 16]);
+                let what = format!("{kind:?}, byte {at} of the entries is {value}");
+                let expected = if value <= *most { 0 } else { 6 };
+                checks.equal(&what, answer.number, expected);
+            }
+        }
     }
 }
 

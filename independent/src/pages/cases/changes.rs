@@ -90,7 +90,7 @@ pub fn with_every_quadruple(bytes: &[u8], at: usize) -> impl Iterator<Item = Vec
     })
 }
 
-fn with(bytes: &[u8], at: usize, put: &[u8]) -> Vec<u8> {
+pub fn with(bytes: &[u8], at: usize, put: &[u8]) -> Vec<u8> {
     let mut changed = bytes.to_vec();
     changed[at..at + put.len()].copy_from_slice(put);
     changed

@@ -1,9 +1,9 @@
 //! What readers handed back, to be written again, and records that no reader hands back.
 
 use super::case::{every_output_length, roomy_case, writing_case, Offer};
-use super::changes::{with_every_quadruple, with_every_value};
+use super::changes::{with, with_every_quadruple, with_every_value};
 use super::reading::{accepted_status, accepted_thresholds, other_configuration};
-use super::shapes::{one_of_each, shelf};
+use super::shapes::{one_of_each, shelf, some_of_each};
 use crate::limits::{
     record_bytes, CONFIGURATION_BYTES, FIRST_LETTER, LAST_LETTER, MOST_ENTRIES, MOST_OF_TYPE,
     MOST_TEXT, STATUS_BYTES, STATUS_ENTRY_BYTES, THRESHOLDS_BYTES, THRESHOLD_ENTRY_BYTES, TYPES_AT,
@@ -11,8 +11,9 @@ use crate::limits::{
 use crate::pages::calls::{
     Call, READ_STATUS, READ_THRESHOLDS, REWRITE_CONFIGURATION, REWRITE_STATUS, REWRITE_THRESHOLDS,
 };
-use crate::record::Shelf;
+use crate::record::{Kind, Shelf};
 use crate::rng::Rng;
+use crate::shown::Place;
 
 pub fn offer_all(rng: &mut Rng, offer: Offer) {
     configurations(rng, offer);
@@ -23,6 +24,9 @@ pub fn offer_all(rng: &mut Rng, offer: Offer) {
         }
         rewriter.every_value_of_every_byte(rng, offer);
         rewriter.every_output_length(rng, offer);
+    }
+    for _ in 0..120 {
+        bytes_too_large(rng, offer);
     }
     threshold_quadruples(rng, offer);
 }
@@ -155,6 +159,35 @@ fn other_number_of_entries(rng: &mut Rng, record: &mut [u8]) {
         number.wrapping_add(256),
     ]);
     record[2..4].copy_from_slice(&other.to_be_bytes());
+}
+
+/// A status record with one byte too large, in turn each byte of some overall entry and of some entry of
+/// each type: a field out of range, or one that the place does not show.
+fn bytes_too_large(rng: &mut Rng, offer: Offer) {
+    let shelf = some_of_each(rng);
+    let inputs = STATUS.accepted(rng, &shelf);
+    let places = shelf.configuration().places();
+    let individual = Kind::ALL.map(Place::Individual);
+    for place in [&[Place::Overall][..], &individual].concat() {
+        let entries = (0..places.len()).filter(|entry| places[*entry] == place);
+        let entry = rng.pick(&entries.collect::<Vec<usize>>());
+        for (at, most) in place.largest().into_iter().enumerate() {
+            let at = record_bytes(STATUS_ENTRY_BYTES, entry) + at;
+            byte_too_large(rng, &inputs, at, most, offer);
+        }
+    }
+}
+
+/// Just too large, and by any more. Not every byte can be.
+fn byte_too_large(rng: &mut Rng, inputs: &[Vec<u8>; 2], at: usize, most: u8, offer: Offer) {
+    let [configuration, record] = inputs;
+    if let Some(just) = most.checked_add(1) {
+        let any = rng.range(just.into(), u8::MAX.into()) as u8;
+        for value in [just, any] {
+            let inputs = vec![configuration.clone(), with(record, at, &[value])];
+            offer(roomy_case(rng, STATUS.call, inputs));
+        }
+    }
 }
 
 /// Each entry of a threshold record in turn.

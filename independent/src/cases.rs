@@ -1,5 +1,11 @@
 //! Shelf blocks to compare: well-formed ones of every shape, and damaged ones.
 
+use crate::limits::{
+    block_bytes, most_elements_of, ELEMENTS_AT, ELEMENT_BYTES, FASTEST, FIRST_LETTER,
+    HIGHEST_NOMINAL, HIGHEST_SPEED, LAST_LETTER, LONGEST_BLOCK, LONGEST_SAID, MOST_ELEMENTS,
+    MOST_OF_TYPE, MOST_SAID, MOST_TEXT, MOST_TYPES, SLOTS_AT, SLOT_BYTES, TEXT_AT_IN_SLOT,
+    TYPES_AT,
+};
 use crate::record::{
     Element, FanSettings, Group, Identification, Kind, Settings, Shelf, Thresholds,
 };
@@ -16,12 +22,15 @@ pub enum Intent {
 
 pub type Offer<'a> = &'a mut dyn FnMut(&[u8], Intent);
 
-const TYPES_AT: usize = 40;
-const SLOTS_AT: usize = 44;
-const SLOT_BYTES: usize = 36;
-pub const ELEMENTS_AT: usize = 332;
-pub const ELEMENT_BYTES: usize = 16;
-const LONGEST_PAGE: usize = 65_539;
+/// As long as any shelf's block, and longer.
+pub const LONG_BLOCK: usize = LONGEST_BLOCK + 44;
+/// The least that is too many and that one byte takes for none.
+const WRAPPED_TO_NONE: usize = (MOST_ELEMENTS / 256 + 1) * 256;
+/// Within the limit of each type, though not within that of all.
+const MOST_OF_EACH: usize = MOST_TYPES * MOST_OF_TYPE;
+const FAR_TOO_MANY: usize = MOST_ELEMENTS + 936;
+/// So many that a type's count is sure to have room in its byte.
+const SURELY_SAID: usize = 250;
 
 pub fn offer_all(rng: &mut Rng, offer: Offer) {
     well_formed_shelves(rng, offer);
@@ -39,16 +48,15 @@ fn well_formed_shelves(rng: &mut Rng, offer: Offer) {
     for _ in 0..60_000 {
         offer(&shelf(rng).block(), Intent::WellFormed);
     }
-    for types in 1..=8 {
-        for elements in 0..=64 {
+    for types in 1..=MOST_TYPES {
+        for elements in 0..=most_elements_of(types) {
             let groups = groups(rng, types, elements);
             offer(&shelf_of(rng, groups).block(), Intent::WellFormed);
         }
     }
     for kind in Kind::ALL {
-        for count in 0..=64 {
-            let groups = vec![group(rng, kind, count)];
-            offer(&shelf_of(rng, groups).block(), Intent::WellFormed);
+        for count in 0..=most_elements_of(1) {
+            offer(&one_type(rng, kind, count).block(), Intent::WellFormed);
         }
     }
 }
@@ -80,8 +88,7 @@ fn byte_changes(rng: &mut Rng, offer: Offer) {
 /// are the pairs of threshold bytes that have an order.
 fn element_words(rng: &mut Rng, offer: Offer) {
     for kind in Kind::ALL {
-        let groups = vec![group(rng, kind, 1)];
-        let block = shelf_of(rng, groups).block();
+        let block = one_type(rng, kind, 1).block();
         for at in (ELEMENTS_AT..block.len()).step_by(2) {
             let mut changed = block.clone();
             for word in 0..=u16::MAX {
@@ -101,7 +108,7 @@ fn wrong_lengths(rng: &mut Rng, offer: Offer) {
         for surplus in 1..=3 * ELEMENT_BYTES {
             offer_extended(&block, surplus, rng, offer);
         }
-        offer_extended(&block, LONGEST_PAGE - block.len(), rng, offer);
+        offer_extended(&block, LONGEST_SAID - block.len(), rng, offer);
         let last_again = &block[block.len() - ELEMENT_BYTES..];
         offer(&[&block[..], last_again].concat(), Intent::Malformed);
     }
@@ -114,9 +121,9 @@ fn offer_extended(block: &[u8], surplus: usize, rng: &mut Rng, offer: Offer) {
 }
 
 fn plain_fills(rng: &mut Rng, offer: Offer) {
-    let short = 0..=1_400;
-    let at_element_ends = (ELEMENTS_AT..=33_000).step_by(ELEMENT_BYTES);
-    let longest = LONGEST_PAGE - 4..=LONGEST_PAGE;
+    let short = 0..=LONG_BLOCK;
+    let at_element_ends = (ELEMENTS_AT..=block_bytes(MOST_SAID + 1)).step_by(ELEMENT_BYTES);
+    let longest = LONGEST_SAID - 4..=LONGEST_SAID;
     for length in short.chain(at_element_ends).chain(longest) {
         for fill in [0x00, 0xFF, 0x01, 0x20] {
             offer(&vec![fill; length], Intent::Malformed);
@@ -131,17 +138,17 @@ fn wrong_totals(rng: &mut Rng, offer: Offer) {
     offer(&shelf_of(rng, Vec::new()).block(), Intent::Malformed);
     for round in 0..2_000 {
         let elements = match round % 4 {
-            0 => 65,
-            1 => rng.range(65, 80),
-            2 => rng.range(256, 320),
-            _ => rng.range(65, 1_000),
+            0 => MOST_ELEMENTS + 1,
+            1 => rng.range(MOST_ELEMENTS + 1, MOST_ELEMENTS + 16),
+            2 => rng.range(WRAPPED_TO_NONE, WRAPPED_TO_NONE + MOST_OF_TYPE),
+            _ => rng.range(MOST_ELEMENTS + 1, FAR_TOO_MANY),
         };
-        let types = rng.range(elements / 250 + 1, 8);
+        let types = rng.range(elements / SURELY_SAID + 1, MOST_TYPES);
         let groups = too_many(rng, types, elements);
         let block = shelf_of(rng, groups).block();
         offer(&block, Intent::Malformed);
-        for counted in [elements % 256, 64] {
-            let length = block.len().min(ELEMENTS_AT + ELEMENT_BYTES * counted);
+        for counted in [elements % 256, MOST_ELEMENTS] {
+            let length = block.len().min(block_bytes(counted));
             offer(&block[..length], Intent::Malformed);
         }
     }
@@ -180,7 +187,7 @@ fn with_element_flaw(rng: &mut Rng, kind: Kind, flaw: ElementFlaw) -> Vec<u8> {
     let mut flawed = group(rng, kind, count);
     let which = rng.range(0, count - 1);
     flaw(&mut flawed.elements[which], rng);
-    let others = rng.range(0, 7);
+    let others = rng.range(0, MOST_TYPES - 1);
     let (groups, _) = surround(rng, flawed, others);
     shelf_of(rng, groups).block()
 }
@@ -193,7 +200,12 @@ fn no_speed(element: &mut Element, _: &mut Rng) {
 
 fn reading_too_fast(element: &mut Element, rng: &mut Rng) {
     if let Element::Cooling { reading, .. } = element {
-        *reading = near(rng, &[2_048, 2_049, 32_768, 65_535], 2_048, 65_535);
+        *reading = near(
+            rng,
+            &[FASTEST + 1, FASTEST + 2, 32_768, 65_535],
+            FASTEST + 1,
+            65_535,
+        );
     }
 }
 
@@ -208,7 +220,12 @@ fn nominal_not_had(element: &mut Element, rng: &mut Rng) {
 }
 
 fn nominal_out_of_range(element: &mut Element, rng: &mut Rng) {
-    *nominal_of(element) = near(rng, &[0, 32_768, 32_769, 65_535], 32_768, 65_535);
+    *nominal_of(element) = near(
+        rng,
+        &[0, HIGHEST_NOMINAL + 1, HIGHEST_NOMINAL + 2, 65_535],
+        HIGHEST_NOMINAL + 1,
+        65_535,
+    );
 }
 
 fn any_threshold(element: &mut Element, rng: &mut Rng) {
@@ -314,9 +331,17 @@ pub fn malformed_block(rng: &mut Rng) -> Vec<u8> {
             with_element_flaw(rng, kind, flaw)
         }
         3 => {
-            let any = rng.range(65, 512);
-            let elements = rng.pick(&[65, 66, 256, 257, 512, any]);
-            let types = rng.range((elements + 63) / 64, 8);
+            let any = rng.range(MOST_ELEMENTS + 1, MOST_OF_EACH);
+            let elements = rng.pick(&[
+                MOST_ELEMENTS + 1,
+                MOST_ELEMENTS + 2,
+                WRAPPED_TO_NONE,
+                WRAPPED_TO_NONE + 1,
+                MOST_OF_EACH,
+                any,
+            ]);
+            let fewest_types = (elements + MOST_OF_TYPE - 1) / MOST_OF_TYPE;
+            let types = rng.range(fewest_types, MOST_TYPES);
             let groups = too_many(rng, types, elements);
             shelf_of(rng, groups).block()
         }
@@ -332,9 +357,9 @@ fn target(rng: &mut Rng) -> Target {
     let kind = rng.pick(&Kind::ALL);
     let count = rng.range(1, 8);
     let mut aimed = group(rng, kind, count);
-    let text_length = rng.range(1, 31);
+    let text_length = rng.range(1, MOST_TEXT - 1);
     aimed.text = text(rng, text_length);
-    let others = rng.range(0, 6);
+    let others = rng.range(0, MOST_TYPES - 2);
     let (groups, place) = surround(rng, aimed, others);
     let before: usize = groups[..place]
         .iter()
@@ -346,7 +371,7 @@ fn target(rng: &mut Rng) -> Target {
         text_length,
         slot_at: SLOTS_AT + SLOT_BYTES * place,
         unused_slots_at: SLOTS_AT + SLOT_BYTES * groups.len(),
-        element_at: ELEMENTS_AT + ELEMENT_BYTES * element,
+        element_at: block_bytes(element),
         block: shelf_of(rng, groups).block(),
     }
 }
@@ -391,14 +416,24 @@ fn padding_in_slot(target: &mut Target, rng: &mut Rng) {
 }
 
 fn letter_out_of_range(target: &mut Target, rng: &mut Rng) {
-    let at = target.slot_at + 4 + rng.range(0, target.text_length - 1);
-    let too_high = rng.range(0x7F, 0xFF) as u8;
-    let too_low = rng.range(0x00, 0x1F) as u8;
-    target.block[at] = rng.pick(&[0x00, 0x1F, 0x7F, 0x80, 0xFF, too_high, too_low]);
+    let at = target.slot_at + TEXT_AT_IN_SLOT + rng.range(0, target.text_length - 1);
+    let (just_too_low, just_too_high) = (FIRST_LETTER - 1, LAST_LETTER + 1);
+    let too_high = rng.range(just_too_high.into(), 0xFF) as u8;
+    let too_low = rng.range(0x00, just_too_low.into()) as u8;
+    target.block[at] = rng.pick(&[
+        0x00,
+        just_too_low,
+        just_too_high,
+        0x80,
+        0xFF,
+        too_high,
+        too_low,
+    ]);
 }
 
 fn padding_after_text(target: &mut Target, rng: &mut Rng) {
-    target.alter(target.slot_at + 4 + rng.range(target.text_length, 31), rng);
+    let text_at = target.slot_at + TEXT_AT_IN_SLOT;
+    target.alter(text_at + rng.range(target.text_length, MOST_TEXT - 1), rng);
 }
 
 fn unused_slot_in_use(target: &mut Target, rng: &mut Rng) {
@@ -480,9 +515,20 @@ fn sparse_element(target: &mut Target, rng: &mut Rng) {
 }
 
 pub fn shelf(rng: &mut Rng) -> Shelf {
-    let types = rng.range(1, 8);
-    let elements = if rng.one_in(6) { 64 } else { rng.range(0, 64) };
+    let types = rng.range(1, MOST_TYPES);
+    let most = most_elements_of(types);
+    let elements = if rng.one_in(6) {
+        most
+    } else {
+        rng.range(0, most)
+    };
     let groups = groups(rng, types, elements);
+    shelf_of(rng, groups)
+}
+
+/// A shelf with so many elements of this type alone.
+pub fn one_type(rng: &mut Rng, kind: Kind, count: usize) -> Shelf {
+    let groups = vec![group(rng, kind, count)];
     shelf_of(rng, groups)
 }
 
@@ -501,7 +547,8 @@ pub fn shelf_of(rng: &mut Rng, groups: Vec<Group>) -> Shelf {
 
 /// The group among others of random types, as full as a shelf may be, and its place there.
 fn surround(rng: &mut Rng, group: Group, others: usize) -> (Vec<Group>, usize) {
-    let room = 64 - group.elements.len();
+    let left = MOST_ELEMENTS - group.elements.len();
+    let room = left.min(most_elements_of(others));
     let elements = if others == 0 { 0 } else { rng.range(0, room) };
     let mut groups = groups(rng, others, elements);
     let place = rng.range(0, others);
@@ -515,8 +562,10 @@ pub fn groups(rng: &mut Rng, types: usize, elements: usize) -> Vec<Group> {
     let mut left = elements;
     while left > 0 {
         let share = rng.range(1, left);
-        counts[rng.range(0, types - 1)] += share;
-        left -= share;
+        let count = &mut counts[rng.range(0, types - 1)];
+        let taken = share.min(MOST_OF_TYPE - *count);
+        *count += taken;
+        left -= taken;
     }
     let mut groups = Vec::new();
     for count in counts {
@@ -538,7 +587,8 @@ fn too_many(rng: &mut Rng, types: usize, elements: usize) -> Vec<Group> {
 }
 
 pub fn group(rng: &mut Rng, kind: Kind, count: usize) -> Group {
-    let length = near(rng, &[0, 1, 31, 32], 0, 32);
+    let most = MOST_TEXT as u16;
+    let length = near(rng, &[0, 1, most - 1, most], 0, most);
     Group {
         kind,
         text: text(rng, length.into()),
@@ -547,55 +597,64 @@ pub fn group(rng: &mut Rng, kind: Kind, count: usize) -> Group {
 }
 
 pub fn text(rng: &mut Rng, length: usize) -> Vec<u8> {
+    let (first, last) = (FIRST_LETTER.into(), LAST_LETTER.into());
     (0..length)
-        .map(|_| near(rng, &[0x20, 0x7E], 0x20, 0x7E) as u8)
+        .map(|_| near(rng, &[first, last], first, last) as u8)
         .collect()
 }
 
 pub fn element(rng: &mut Rng, kind: Kind) -> Element {
     match kind {
-        Kind::Cooling => Element::Cooling {
-            settings: FanSettings {
-                common: settings(rng),
-                on: rng.one_in(2),
-                speed: rng.range(1, 7) as u8,
-            },
-            thresholds: Thresholds::default(),
-            reading: near(rng, &[0, 1, 255, 256, 2_046, 2_047], 0, 2_047),
-            nominal: 0,
-        },
-        Kind::Temperature => {
-            let (low_warning, low_critical) = ordered_pair(rng);
-            Element::Temperature {
-                settings: settings(rng),
-                thresholds: Thresholds {
-                    low_warning,
-                    low_critical,
-                    ..high_thresholds(rng)
-                },
-                reading: near(rng, &[0, 1, 254, 255], 0, 255),
-                nominal: 0,
-            }
-        }
-        Kind::Voltage => {
-            let (low_critical, low_warning) = ordered_pair(rng);
-            Element::Voltage {
-                settings: settings(rng),
-                thresholds: Thresholds {
-                    low_warning,
-                    low_critical,
-                    ..high_thresholds(rng)
-                },
-                reading: signed_reading(rng),
-                nominal: nominal(rng),
-            }
-        }
+        Kind::Cooling => fan(rng),
+        Kind::Temperature => temperature_sensor(rng),
+        Kind::Voltage => voltage_sensor(rng),
         Kind::Current => Element::Current {
             settings: settings(rng),
             thresholds: high_thresholds(rng),
             reading: signed_reading(rng),
             nominal: nominal(rng),
         },
+    }
+}
+
+fn fan(rng: &mut Rng) -> Element {
+    Element::Cooling {
+        settings: FanSettings {
+            common: settings(rng),
+            on: rng.one_in(2),
+            speed: rng.range(1, HIGHEST_SPEED.into()) as u8,
+        },
+        thresholds: Thresholds::default(),
+        reading: near(rng, &[0, 1, 255, 256, FASTEST - 1, FASTEST], 0, FASTEST),
+        nominal: 0,
+    }
+}
+
+fn temperature_sensor(rng: &mut Rng) -> Element {
+    let (low_warning, low_critical) = ordered_pair(rng);
+    Element::Temperature {
+        settings: settings(rng),
+        thresholds: Thresholds {
+            low_warning,
+            low_critical,
+            ..high_thresholds(rng)
+        },
+        reading: near(rng, &[0, 1, 254, 255], 0, 255),
+        nominal: 0,
+    }
+}
+
+fn voltage_sensor(rng: &mut Rng) -> Element {
+    let (low_critical, low_warning) = ordered_pair(rng);
+    Element::Voltage {
+        settings: settings(rng),
+        thresholds: Thresholds {
+            low_warning,
+            low_critical,
+            ..high_thresholds(rng)
+        },
+        reading: signed_reading(rng),
+        nominal: nominal(rng),
     }
 }
 
@@ -615,7 +674,12 @@ fn signed_reading(rng: &mut Rng) -> i16 {
 }
 
 fn nominal(rng: &mut Rng) -> u16 {
-    near(rng, &[1, 2, 255, 256, 32_766, 32_767], 1, 32_767)
+    near(
+        rng,
+        &[1, 2, 255, 256, HIGHEST_NOMINAL - 1, HIGHEST_NOMINAL],
+        1,
+        HIGHEST_NOMINAL,
+    )
 }
 
 fn high_thresholds(rng: &mut Rng) -> Thresholds {

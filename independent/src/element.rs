@@ -1,8 +1,8 @@
-//! The rules for one element: control, thresholds, verdict and status.
+//! The rules for one element: control, thresholds and verdict.
 
 use crate::bits::{bit, flag};
 use crate::record::{Element, FanSettings, Kind, Settings, Thresholds};
-use crate::shown::Shown;
+use std::array::from_fn;
 
 /// A selected control element has a reserved bit set: refusal 6.
 #[derive(Clone, Copy, Debug, PartialEq, Eq)]
@@ -36,19 +36,16 @@ impl Request {
 
     /// Every selected element that the type allows, with what it asks for.
     pub fn every(kind: Kind) -> Vec<([u8; 4], Request)> {
-        let [first, second, third, fourth] = [0, 1, 2, 3].map(|at| allowed_bytes(kind, at));
-        let mut every = Vec::new();
-        for &byte0 in &first {
-            for &byte1 in &second {
-                for &byte2 in &third {
-                    for &byte3 in &fourth {
-                        let element = [byte0, byte1, byte2, byte3];
-                        every.push((element, Request::parse(kind, element)));
-                    }
-                }
-            }
+        let mut elements = vec![[0; 4]];
+        for at in 0..4 {
+            let allowed = allowed_bytes(kind, at);
+            let with_each = |element| allowed.iter().map(move |byte| with(element, at, *byte));
+            elements = elements.into_iter().flat_map(with_each).collect();
         }
-        every
+        let elements = elements.into_iter();
+        elements
+            .map(|element| (element, Request::parse(kind, element)))
+            .collect()
     }
 
     fn parse(kind: Kind, [byte0, byte1, _, byte3]: [u8; 4]) -> Request {
@@ -115,11 +112,15 @@ impl Request {
 /// What this byte of a selected element may be. Whether a bit is reserved does not depend on the others.
 fn allowed_bytes(kind: Kind, at: usize) -> Vec<u8> {
     let allowed = |byte: &u8| {
-        let mut element = [0x80, 0x00, 0x00, 0x00];
-        element[at] = *byte;
+        let element = with([0x80, 0x00, 0x00, 0x00], at, *byte);
         matches!(Request::decode(kind, element), Ok(Some(_)))
     };
     (0..=0xFF).filter(allowed).collect()
+}
+
+fn with(mut element: [u8; 4], at: usize, byte: u8) -> [u8; 4] {
+    element[at] = byte;
+    element
 }
 
 impl Element {
@@ -145,53 +146,12 @@ impl Element {
 impl Thresholds {
     /// What is stored after a Threshold Out page with these two elements.
     pub fn joined(self, overall: Thresholds, individual: Thresholds) -> Thresholds {
-        let first_nonzero = |individual: u8, overall: u8, stored: u8| match (individual, overall) {
-            (0, 0) => stored,
+        let [stored, overall, individual] = [self, overall, individual].map(|set| set.bytes());
+        Thresholds::from_bytes(from_fn(|at| match (individual[at], overall[at]) {
+            (0, 0) => stored[at],
             (0, overall) => overall,
             (individual, _) => individual,
-        };
-        Thresholds {
-            high_critical: first_nonzero(
-                individual.high_critical,
-                overall.high_critical,
-                self.high_critical,
-            ),
-            high_warning: first_nonzero(
-                individual.high_warning,
-                overall.high_warning,
-                self.high_warning,
-            ),
-            low_warning: first_nonzero(
-                individual.low_warning,
-                overall.low_warning,
-                self.low_warning,
-            ),
-            low_critical: first_nonzero(
-                individual.low_critical,
-                overall.low_critical,
-                self.low_critical,
-            ),
-        }
-    }
-
-    /// None is set that the type does not have.
-    pub fn had_by(&self, kind: Kind) -> bool {
-        match kind {
-            Kind::Cooling => *self == Thresholds::default(),
-            Kind::Temperature | Kind::Voltage => true,
-            Kind::Current => self.low_warning == 0 && self.low_critical == 0,
-        }
-    }
-
-    pub fn keep_order(&self, kind: Kind) -> bool {
-        let at_least = |above: u8, below: u8| above == 0 || below == 0 || above >= below;
-        let high = at_least(self.high_critical, self.high_warning);
-        let low = match kind {
-            Kind::Temperature => at_least(self.low_warning, self.low_critical),
-            Kind::Voltage => at_least(self.low_critical, self.low_warning),
-            Kind::Cooling | Kind::Current => true,
-        };
-        high && low
+        }))
     }
 }
 
@@ -230,6 +190,22 @@ impl Code {
 }
 
 impl Limits {
+    /// By what makes a limit trip as a high and as a low one; a limit of 0 never does.
+    fn tripped(
+        thresholds: Thresholds,
+        high: impl Fn(u8) -> bool,
+        low: impl Fn(u8) -> bool,
+    ) -> Limits {
+        let high = |limit| limit != 0 && high(limit);
+        let low = |limit| limit != 0 && low(limit);
+        Limits {
+            critical_over: high(thresholds.high_critical),
+            warning_over: high(thresholds.high_warning),
+            warning_under: low(thresholds.low_warning),
+            critical_under: low(thresholds.low_critical),
+        }
+    }
+
     fn verdict(self) -> Verdict {
         let code = if self.critical_over || self.critical_under {
             Code::Critical
@@ -258,63 +234,14 @@ impl Element {
                 reading,
                 nominal,
                 ..
-            } => voltage_limits(thresholds, reading.into(), nominal.into()).verdict(),
+            } => voltage_verdict(thresholds, reading.into(), nominal.into()),
             Element::Current {
                 thresholds,
                 reading,
                 nominal,
                 ..
-            } => current_limits(thresholds, reading.into(), nominal.into()).verdict(),
+            } => current_verdict(thresholds, reading.into(), nominal.into()),
         }
-    }
-
-    /// What the status page shows of this element.
-    pub fn shown(&self) -> Shown {
-        let Verdict { code, limits } = self.verdict();
-        let code = code.number();
-        match *self {
-            Element::Cooling {
-                settings, reading, ..
-            } => Shown::Cooling {
-                code,
-                settings: settings.common,
-                on: settings.on,
-                off: !settings.on,
-                speed: settings.speed,
-                reading,
-            },
-            Element::Temperature {
-                settings, reading, ..
-            } => {
-                let [_, reading] = reading.to_be_bytes();
-                Shown::Temperature {
-                    code,
-                    settings,
-                    reading,
-                    limits,
-                }
-            }
-            Element::Voltage {
-                settings, reading, ..
-            } => Shown::Voltage {
-                code,
-                settings,
-                reading,
-                limits,
-            },
-            Element::Current {
-                settings, reading, ..
-            } => Shown::Current {
-                code,
-                settings,
-                reading,
-                limits,
-            },
-        }
-    }
-
-    pub fn status(&self) -> [u8; 4] {
-        self.shown().element()
     }
 }
 
@@ -339,39 +266,24 @@ fn temperature_verdict(thresholds: Thresholds, reading: u16) -> Verdict {
     }
     let degrees = |byte: i32| byte - 20;
     let measured = degrees(reading.into());
-    let above = |limit: u8| limit != 0 && measured > degrees(limit.into());
-    let below = |limit: u8| limit != 0 && measured < degrees(limit.into());
-    let limits = Limits {
-        critical_over: above(thresholds.high_critical),
-        warning_over: above(thresholds.high_warning),
-        warning_under: below(thresholds.low_warning),
-        critical_under: below(thresholds.low_critical),
-    };
-    limits.verdict()
-}
-
-fn voltage_limits(thresholds: Thresholds, v: i64, n: i64) -> Limits {
-    Limits {
-        critical_over: trips_high(thresholds.high_critical, v, n),
-        warning_over: trips_high(thresholds.high_warning, v, n),
-        warning_under: trips_low(thresholds.low_warning, v, n),
-        critical_under: trips_low(thresholds.low_critical, v, n),
-    }
-}
-
-fn current_limits(thresholds: Thresholds, v: i64, n: i64) -> Limits {
-    Limits {
-        critical_over: trips_high(thresholds.high_critical, v, n),
-        warning_over: trips_high(thresholds.high_warning, v, n),
-        ..Limits::default()
-    }
+    let above = |limit: u8| measured > degrees(limit.into());
+    let below = |limit: u8| measured < degrees(limit.into());
+    Limits::tripped(thresholds, above, below).verdict()
 }
 
 /// `v` and `n` are reading and nominal; a limit counts in half percents of the nominal.
-fn trips_high(limit: u8, v: i64, n: i64) -> bool {
-    limit != 0 && 200 * (v - n) > n * i64::from(limit)
+fn voltage_verdict(thresholds: Thresholds, v: i64, n: i64) -> Verdict {
+    let above = |limit: u8| 200 * (v - n) > n * i64::from(limit);
+    let below = |limit: u8| 200 * (n - v) > n * i64::from(limit);
+    Limits::tripped(thresholds, above, below).verdict()
 }
 
-fn trips_low(limit: u8, v: i64, n: i64) -> bool {
-    limit != 0 && 200 * (n - v) > n * i64::from(limit)
+/// As for a voltage, high only.
+fn current_verdict(thresholds: Thresholds, v: i64, n: i64) -> Verdict {
+    let high_only = Thresholds {
+        low_warning: 0,
+        low_critical: 0,
+        ..thresholds
+    };
+    voltage_verdict(high_only, v, n)
 }

@@ -3,7 +3,9 @@
 mod bits;
 mod cases;
 mod element;
+mod hex;
 mod library;
+mod limits;
 mod pages;
 mod record;
 mod rng;
@@ -19,7 +21,7 @@ fn main() -> ExitCode {
     let command: Vec<&str> = arguments.iter().map(String::as_str).collect();
     let passed = match &command[..] {
         ["selftest"] => selftest::run(),
-        ["shelf-a"] => stdout().write_all(&selftest::block_a()).is_ok(),
+        ["shelf-a"] => stdout().write_all(&selftest::examples::block_a()).is_ok(),
         ["pages", library @ ..] if !library.is_empty() => pages::compare::run(library),
         ["shelves", library @ ..] if !library.is_empty() => shelves::run(library),
         _ => {

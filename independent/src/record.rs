@@ -1,11 +1,10 @@
 //! The shelf record as typed data, what makes it well formed, and its block of bytes.
 
 use crate::bits::{bit, flag};
-
-const TYPE_SLOTS: usize = 8;
-const SLOT_BYTES: usize = 36;
-const TEXT_ROOM: usize = 32;
-const MOST_ELEMENTS: usize = 64;
+use crate::limits::{
+    ELEMENT_BYTES, FASTEST, FIRST_LETTER, HIGHEST_NOMINAL, HIGHEST_SPEED, LAST_LETTER,
+    MOST_ELEMENTS, MOST_OF_TYPE, MOST_TEXT, MOST_TYPES, SLOT_BYTES, TEXT_AT_IN_SLOT,
+};
 
 #[derive(Clone, Debug, PartialEq, Eq)]
 pub struct Shelf {
@@ -124,7 +123,7 @@ pub fn is_well_formed_block(block: &[u8]) -> bool {
 
 impl Shelf {
     pub fn well_formed(&self) -> bool {
-        (1..=TYPE_SLOTS).contains(&self.groups.len())
+        (1..=MOST_TYPES).contains(&self.groups.len())
             && self.elements().count() <= MOST_ELEMENTS
             && self.groups.iter().all(Group::well_formed)
     }
@@ -189,7 +188,7 @@ impl Configuration {
         for entry in &self.types {
             block.extend(entry.slot());
         }
-        for _ in self.types.len()..TYPE_SLOTS {
+        for _ in self.types.len()..MOST_TYPES {
             block.extend([0; SLOT_BYTES]);
         }
         block
@@ -200,7 +199,7 @@ impl Configuration {
         let identification = Identification::parse(cursor)?;
         let [types, _, _, _] = cursor.take()?;
         let mut slots = Vec::new();
-        for _ in 0..TYPE_SLOTS {
+        for _ in 0..MOST_TYPES {
             slots.push(cursor.take::<SLOT_BYTES>()?);
         }
         let mut entries = Vec::new();
@@ -237,12 +236,12 @@ impl Identification {
 
 impl Group {
     fn well_formed(&self) -> bool {
-        self.elements.len() <= MOST_ELEMENTS
-            && self.text.len() <= TEXT_ROOM
+        self.elements.len() <= MOST_OF_TYPE
+            && self.text.len() <= MOST_TEXT
             && self
                 .text
                 .iter()
-                .all(|letter| (0x20..=0x7E).contains(letter))
+                .all(|letter| (FIRST_LETTER..=LAST_LETTER).contains(letter))
             && self
                 .elements
                 .iter()
@@ -285,7 +284,7 @@ impl Type {
         slot[0] = self.kind.code();
         slot[1] = self.count as u8;
         slot[2] = self.text.len() as u8;
-        slot[4..4 + self.text.len()].copy_from_slice(&self.text);
+        slot[TEXT_AT_IN_SLOT..][..self.text.len()].copy_from_slice(&self.text);
         slot
     }
 
@@ -293,7 +292,9 @@ impl Type {
         Some(Type {
             kind: Kind::from_code(slot[0])?,
             count: slot[1].into(),
-            text: slot[4..].get(..usize::from(slot[2]))?.to_vec(),
+            text: slot[TEXT_AT_IN_SLOT..]
+                .get(..usize::from(slot[2]))?
+                .to_vec(),
         })
     }
 }
@@ -374,22 +375,32 @@ impl Element {
                 reading,
                 nominal,
             } => {
-                (1..=7).contains(&settings.speed)
+                (1..=HIGHEST_SPEED).contains(&settings.speed)
                     && thresholds.had_by(Kind::Cooling)
-                    && *reading <= 2047
+                    && *reading <= FASTEST
                     && *nominal == 0
             }
             Element::Temperature {
                 reading, nominal, ..
             } => *reading <= 255 && *nominal == 0,
-            Element::Voltage { nominal, .. } => (1..=32767).contains(nominal),
+            Element::Voltage { nominal, .. } => (1..=HIGHEST_NOMINAL).contains(nominal),
             Element::Current {
                 thresholds,
                 nominal,
                 ..
-            } => thresholds.had_by(Kind::Current) && (1..=32767).contains(nominal),
+            } => thresholds.had_by(Kind::Current) && (1..=HIGHEST_NOMINAL).contains(nominal),
         };
         in_range && self.thresholds().keep_order(self.kind())
+    }
+
+    /// Without a fan's ON and SPEED.
+    pub fn settings(&self) -> Settings {
+        match self {
+            Element::Cooling { settings, .. } => settings.common,
+            Element::Temperature { settings, .. }
+            | Element::Voltage { settings, .. }
+            | Element::Current { settings, .. } => *settings,
+        }
     }
 
     pub fn thresholds(&self) -> Thresholds {
@@ -418,7 +429,7 @@ impl Element {
         (element.well_formed() && element.bytes() == bytes).then_some(element)
     }
 
-    fn bytes(&self) -> [u8; 16] {
+    fn bytes(&self) -> [u8; ELEMENT_BYTES] {
         let (settings, reading, nominal) = match self {
             Element::Cooling {
                 settings,
@@ -445,7 +456,7 @@ impl Element {
                 ..
             } => (settings.bytes(), reading.to_be_bytes(), nominal),
         };
-        let mut bytes = [0; 16];
+        let mut bytes = [0; ELEMENT_BYTES];
         bytes[0..4].copy_from_slice(&settings);
         bytes[4..8].copy_from_slice(&self.thresholds().bytes());
         bytes[8..10].copy_from_slice(&reading);
@@ -508,21 +519,21 @@ impl Settings {
 
 impl FanSettings {
     fn bytes(&self) -> [u8; 4] {
-        let common = self.common;
-        let byte0 = flag(common.prdfail, 6) + flag(common.disabled, 5) + flag(common.swap, 4);
-        let byte1 = flag(common.ident, 7);
-        let byte3 = flag(common.fail, 6) + flag(self.on, 5) + self.speed;
-        [byte0, byte1, 0, byte3]
+        let fail_elsewhere = Settings {
+            fail: false,
+            ..self.common
+        };
+        let [byte0, byte1, byte2, _] = fail_elsewhere.bytes();
+        let byte3 = flag(self.common.fail, 6) + flag(self.on, 5) + self.speed;
+        [byte0, byte1, byte2, byte3]
     }
 
-    fn from_bytes([byte0, byte1, _, byte3]: [u8; 4]) -> FanSettings {
+    fn from_bytes(bytes: [u8; 4]) -> FanSettings {
+        let [_, _, _, byte3] = bytes;
         FanSettings {
             common: Settings {
-                prdfail: bit(byte0, 6),
-                disabled: bit(byte0, 5),
-                swap: bit(byte0, 4),
-                ident: bit(byte1, 7),
                 fail: bit(byte3, 6),
+                ..Settings::from_bytes(bytes)
             },
             on: bit(byte3, 5),
             speed: byte3 % 8,
@@ -547,6 +558,26 @@ impl Thresholds {
             low_warning,
             low_critical,
         }
+    }
+
+    /// None is set that the type does not have.
+    pub fn had_by(&self, kind: Kind) -> bool {
+        match kind {
+            Kind::Cooling => *self == Thresholds::default(),
+            Kind::Temperature | Kind::Voltage => true,
+            Kind::Current => self.low_warning == 0 && self.low_critical == 0,
+        }
+    }
+
+    pub fn keep_order(&self, kind: Kind) -> bool {
+        let at_least = |above: u8, below: u8| above == 0 || below == 0 || above >= below;
+        let high = at_least(self.high_critical, self.high_warning);
+        let low = match kind {
+            Kind::Temperature => at_least(self.low_warning, self.low_critical),
+            Kind::Voltage => at_least(self.low_critical, self.low_warning),
+            Kind::Cooling | Kind::Current => true,
+        };
+        high && low
     }
 }
 

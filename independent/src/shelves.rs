@@ -1,6 +1,7 @@
 //! Compares the library's answer on shelf blocks with the one reached here.
 
 use crate::cases::{self, Intent};
+use crate::hex;
 use crate::library::{request, Library};
 use crate::record;
 use crate::rng::Rng;
@@ -12,7 +13,8 @@ const ASKED_AT_ONCE: usize = 1_000;
 
 struct Comparison {
     library: Library,
-    waiting: Vec<Vec<u8>>,
+    /// Each block, and whether it is well formed by the rules here.
+    waiting: Vec<(Vec<u8>, bool)>,
     well_formed: usize,
     malformed: usize,
 }
@@ -52,7 +54,7 @@ impl Comparison {
                 &format!("made as {intent:?}, well formed here: {well_formed}"),
             );
         }
-        self.waiting.push(block.to_vec());
+        self.waiting.push((block.to_vec(), well_formed));
         if self.waiting.len() == ASKED_AT_ONCE {
             self.ask();
         }
@@ -62,11 +64,10 @@ impl Comparison {
         let requests: Vec<Vec<u8>> = self
             .waiting
             .iter()
-            .map(|block| request(b'c', &[block]))
+            .map(|(block, _)| request(b'c', &[block]))
             .collect();
         let answers = self.library.ask(&requests, requests.len());
-        for (block, library) in self.waiting.drain(..).zip(answers) {
-            let well_formed = record::is_well_formed_block(&block);
+        for ((block, well_formed), library) in self.waiting.drain(..).zip(answers) {
             let own = if well_formed { 0 } else { 1 };
             if library != own {
                 stop(
@@ -88,9 +89,6 @@ fn stop(block: &[u8], difference: &str) -> ! {
         "shelves: {difference}, on a block of {} bytes:",
         block.len()
     );
-    for line in block.chunks(16) {
-        let bytes: Vec<String> = line.iter().map(|byte| format!("{byte:02X}")).collect();
-        println!("{}", bytes.join(" "));
-    }
+    hex::print(block);
     exit(1)
 }

@@ -1,11 +1,9 @@
-//! One element of the status page by its fields, as its four bytes and as a record's entry.
+//! One element of the status page by its fields. A table for each type says which there are, and from it
+//! follow the element's four bytes on the page and its entry in a record, both ways.
 
-use crate::bits::{bit, flag};
-use crate::element::Limits;
-use crate::record::{Configuration, Kind, Settings};
-use std::iter::{once, repeat};
-
-const SPARE_BYTE: usize = 9;
+use crate::limits::{FASTEST, HIGHEST_CODE, HIGHEST_SPEED, STATUS_ENTRY_BYTES};
+use crate::record::{Configuration, Element, FanSettings, Kind};
+use std::iter::{once, repeat, zip};
 
 /// What an element of the pages 02h and 05h stands for.
 #[derive(Clone, Copy, Debug, PartialEq, Eq)]
@@ -24,360 +22,247 @@ impl Configuration {
     }
 }
 
-/// The fields that each kind of element shows. Limits that a type does not have are false.
-#[derive(Clone, Copy, Debug, PartialEq, Eq)]
-pub enum Shown {
-    Overall {
-        code: u8,
-    },
-    Cooling {
-        code: u8,
-        settings: Settings,
-        on: bool,
-        off: bool,
-        speed: u8,
-        reading: u16,
-    },
-    Temperature {
-        code: u8,
-        settings: Settings,
-        reading: u8,
-        limits: Limits,
-    },
-    Voltage {
-        code: u8,
-        settings: Settings,
-        reading: i16,
-        limits: Limits,
-    },
-    Current {
-        code: u8,
-        settings: Settings,
-        reading: i16,
-        limits: Limits,
-    },
+/// A field of a status element, which is a byte of an entry.
+struct Field {
+    /// Its byte of the element, and its lowest bit there.
+    byte: usize,
+    bit: u32,
+    /// Its largest value. It has as many bits as this needs.
+    most: u8,
+    /// What it shows of an element.
+    of: fn(&Element) -> u8,
+}
+
+const fn flag(byte: usize, bit: u32, of: fn(&Element) -> u8) -> Field {
+    up_to(1, byte, bit, of)
+}
+
+const fn whole_byte(byte: usize, of: fn(&Element) -> u8) -> Field {
+    up_to(u8::MAX, byte, 0, of)
+}
+
+const fn up_to(most: u8, byte: usize, bit: u32, of: fn(&Element) -> u8) -> Field {
+    Field {
+        byte,
+        bit,
+        most,
+        of,
+    }
+}
+
+/// The fields that all types show.
+static COMMON: [Field; 4] = [
+    up_to(HIGHEST_CODE, 0, 0, |element| {
+        element.verdict().code.number()
+    }),
+    flag(0, 6, |element| element.settings().prdfail.into()),
+    flag(0, 5, |element| element.settings().disabled.into()),
+    flag(0, 4, |element| element.settings().swap.into()),
+];
+
+/// The fields behind those, in the order of the page.
+static COOLING: [Field; 7] = [
+    flag(1, 7, ident),
+    up_to(FASTEST.to_be_bytes()[0], 1, 0, upper_reading),
+    whole_byte(2, lower_reading),
+    flag(3, 6, fail),
+    flag(3, 5, |element| fan_settings(element).on.into()),
+    flag(3, 4, |element| (!fan_settings(element).on).into()),
+    up_to(HIGHEST_SPEED, 3, 0, |element| fan_settings(element).speed),
+];
+
+static TEMPERATURE: [Field; 7] = [
+    flag(1, 7, ident),
+    flag(1, 6, fail),
+    whole_byte(2, lower_reading),
+    flag(3, 3, critical_over),
+    flag(3, 2, warning_over),
+    flag(3, 1, critical_under),
+    flag(3, 0, warning_under),
+];
+
+static VOLTAGE: [Field; 8] = [
+    flag(1, 7, ident),
+    flag(1, 6, fail),
+    flag(1, 3, warning_over),
+    flag(1, 2, warning_under),
+    flag(1, 1, critical_over),
+    flag(1, 0, critical_under),
+    whole_byte(2, upper_reading),
+    whole_byte(3, lower_reading),
+];
+
+static CURRENT: [Field; 6] = [
+    flag(1, 7, ident),
+    flag(1, 6, fail),
+    flag(1, 3, warning_over),
+    flag(1, 1, critical_over),
+    whole_byte(2, upper_reading),
+    whole_byte(3, lower_reading),
+];
+
+impl Place {
+    /// In the order of an entry; the code is the first.
+    fn fields(self) -> impl Iterator<Item = &'static Field> {
+        let (common, own): (&[Field], &[Field]) = match self {
+            Place::Overall => (&COMMON[..1], &[]),
+            Place::Individual(Kind::Cooling) => (&COMMON, &COOLING),
+            Place::Individual(Kind::Temperature) => (&COMMON, &TEMPERATURE),
+            Place::Individual(Kind::Voltage) => (&COMMON, &VOLTAGE),
+            Place::Individual(Kind::Current) => (&COMMON, &CURRENT),
+        };
+        common.iter().chain(own)
+    }
+
+    /// The largest value of each byte of an entry: 0 where the place shows nothing.
+    pub fn largest(self) -> [u8; STATUS_ENTRY_BYTES] {
+        in_front(self.fields().map(|field| field.most))
+    }
+}
+
+impl Field {
+    fn taken_from(&self, element: [u8; 4]) -> u8 {
+        (element[self.byte] >> self.bit) & (u8::MAX >> self.most.leading_zeros())
+    }
+
+    fn put_into(&self, element: &mut [u8; 4], value: u8) {
+        element[self.byte] += value << self.bit;
+    }
+}
+
+/// What one element of the page shows: a value for each field of its place, none too large.
+#[derive(Clone, Debug, PartialEq, Eq)]
+pub struct Shown {
+    place: Place,
+    values: Vec<u8>,
 }
 
 impl Shown {
-    /// None if the bytes have a bit set that the place does not name, or a code over 8.
+    pub fn overall(code: u8) -> Shown {
+        Shown {
+            place: Place::Overall,
+            values: vec![code],
+        }
+    }
+
+    /// None if the bytes have a bit set that the place does not name, or a code that is too high.
     pub fn from_element(place: Place, element: [u8; 4]) -> Option<Shown> {
-        let shown = Shown::parse_element(place, element);
-        (shown.in_range() && shown.element() == element).then_some(shown)
+        let values = place.fields().map(|field| field.taken_from(element));
+        let shown = Shown::with_values(place, values)?;
+        (shown.element() == element).then_some(shown)
     }
 
     /// None if a field is out of range, or set where the place shows none.
-    pub fn from_entry(place: Place, entry: [u8; 16]) -> Option<Shown> {
-        let shown = Shown::parse_entry(place, entry);
-        let mut looked_at = entry;
-        looked_at[SPARE_BYTE] = 0;
-        (shown.in_range() && shown.entry() == looked_at).then_some(shown)
+    pub fn from_entry(place: Place, entry: [u8; STATUS_ENTRY_BYTES]) -> Option<Shown> {
+        let values = zip(place.fields(), entry).map(|(_, byte)| byte);
+        let shown = Shown::with_values(place, values)?;
+        (shown.entry() == entry).then_some(shown)
     }
 
-    fn in_range(&self) -> bool {
-        match *self {
-            Shown::Overall { code }
-            | Shown::Temperature { code, .. }
-            | Shown::Voltage { code, .. }
-            | Shown::Current { code, .. } => code <= 8,
-            Shown::Cooling {
-                code,
-                speed,
-                reading,
-                ..
-            } => code <= 8 && speed <= 7 && reading <= 2047,
-        }
+    /// None if one is too large for its field.
+    fn with_values(place: Place, values: impl Iterator<Item = u8>) -> Option<Shown> {
+        let values: Vec<u8> = values.collect();
+        let mut fields = zip(place.fields(), &values);
+        let in_range = fields.all(|(field, value)| *value <= field.most);
+        in_range.then_some(Shown { place, values })
     }
 
-    /// Passes over the bits without a name.
-    fn parse_element(place: Place, [byte0, byte1, byte2, byte3]: [u8; 4]) -> Shown {
-        let code = byte0 % 16;
-        let settings = Settings {
-            prdfail: bit(byte0, 6),
-            disabled: bit(byte0, 5),
-            swap: bit(byte0, 4),
-            ident: bit(byte1, 7),
-            fail: bit(byte1, 6),
-        };
-        match place {
-            Place::Overall => Shown::Overall { code },
-            Place::Individual(Kind::Cooling) => Shown::Cooling {
-                code,
-                settings: Settings {
-                    fail: bit(byte3, 6),
-                    ..settings
-                },
-                on: bit(byte3, 5),
-                off: bit(byte3, 4),
-                speed: byte3 % 8,
-                reading: u16::from_be_bytes([byte1 % 8, byte2]),
-            },
-            Place::Individual(Kind::Temperature) => Shown::Temperature {
-                code,
-                settings,
-                reading: byte2,
-                limits: Limits {
-                    critical_over: bit(byte3, 3),
-                    warning_over: bit(byte3, 2),
-                    critical_under: bit(byte3, 1),
-                    warning_under: bit(byte3, 0),
-                },
-            },
-            Place::Individual(Kind::Voltage) => Shown::Voltage {
-                code,
-                settings,
-                reading: i16::from_be_bytes([byte2, byte3]),
-                limits: Limits {
-                    warning_over: bit(byte1, 3),
-                    warning_under: bit(byte1, 2),
-                    critical_over: bit(byte1, 1),
-                    critical_under: bit(byte1, 0),
-                },
-            },
-            Place::Individual(Kind::Current) => Shown::Current {
-                code,
-                settings,
-                reading: i16::from_be_bytes([byte2, byte3]),
-                limits: Limits {
-                    warning_over: bit(byte1, 3),
-                    critical_over: bit(byte1, 1),
-                    ..Limits::default()
-                },
-            },
-        }
+    pub fn code(&self) -> u8 {
+        self.values[0]
     }
 
     /// The four bytes on the status page.
     pub fn element(&self) -> [u8; 4] {
-        match *self {
-            Shown::Overall { code } => [code, 0, 0, 0],
-            Shown::Cooling {
-                code,
-                settings,
-                on,
-                off,
-                speed,
-                reading,
-            } => {
-                let [upper, lower] = reading.to_be_bytes();
-                [
-                    byte0(code, settings),
-                    flag(settings.ident, 7) + upper,
-                    lower,
-                    flag(settings.fail, 6) + flag(on, 5) + flag(off, 4) + speed,
-                ]
-            }
-            Shown::Temperature {
-                code,
-                settings,
-                reading,
-                limits,
-            } => [
-                byte0(code, settings),
-                flag(settings.ident, 7) + flag(settings.fail, 6),
-                reading,
-                flag(limits.critical_over, 3)
-                    + flag(limits.warning_over, 2)
-                    + flag(limits.critical_under, 1)
-                    + flag(limits.warning_under, 0),
-            ],
-            Shown::Voltage {
-                code,
-                settings,
-                reading,
-                limits,
-            }
-            | Shown::Current {
-                code,
-                settings,
-                reading,
-                limits,
-            } => {
-                let byte1 = flag(settings.ident, 7)
-                    + flag(settings.fail, 6)
-                    + flag(limits.warning_over, 3)
-                    + flag(limits.warning_under, 2)
-                    + flag(limits.critical_over, 1)
-                    + flag(limits.critical_under, 0);
-                let [upper, lower] = reading.to_be_bytes();
-                [byte0(code, settings), byte1, upper, lower]
-            }
+        let mut element = [0; 4];
+        for (field, value) in zip(self.place.fields(), &self.values) {
+            field.put_into(&mut element, *value);
+        }
+        element
+    }
+
+    /// The bytes in a status record: the values, and zeros behind them.
+    pub fn entry(&self) -> [u8; STATUS_ENTRY_BYTES] {
+        in_front(self.values.iter().copied())
+    }
+}
+
+fn in_front(bytes: impl Iterator<Item = u8>) -> [u8; STATUS_ENTRY_BYTES] {
+    let mut entry = [0; STATUS_ENTRY_BYTES];
+    for (byte, value) in zip(&mut entry, bytes) {
+        *byte = value;
+    }
+    entry
+}
+
+impl Element {
+    /// What the status page shows of this element.
+    pub fn shown(&self) -> Shown {
+        let place = Place::Individual(self.kind());
+        let values = place.fields().map(|field| (field.of)(self));
+        Shown {
+            place,
+            values: values.collect(),
         }
     }
 
-    /// Passes over the fields that the place does not show.
-    fn parse_entry(place: Place, entry: [u8; 16]) -> Shown {
-        let Entry {
-            code,
-            settings,
-            on,
-            off,
-            speed,
-            reading,
-            limits,
-        } = Entry::parse(entry);
-        match place {
-            Place::Overall => Shown::Overall { code },
-            Place::Individual(Kind::Cooling) => Shown::Cooling {
-                code,
-                settings,
-                on,
-                off,
-                speed,
-                reading: u16::from_be_bytes(reading),
-            },
-            Place::Individual(Kind::Temperature) => {
-                let [_, reading] = reading;
-                Shown::Temperature {
-                    code,
-                    settings,
-                    reading,
-                    limits,
-                }
-            }
-            Place::Individual(Kind::Voltage) => Shown::Voltage {
-                code,
-                settings,
-                reading: i16::from_be_bytes(reading),
-                limits,
-            },
-            Place::Individual(Kind::Current) => Shown::Current {
-                code,
-                settings,
-                reading: i16::from_be_bytes(reading),
-                limits: Limits {
-                    warning_under: false,
-                    critical_under: false,
-                    ..limits
-                },
-            },
+    pub fn status(&self) -> [u8; 4] {
+        self.shown().element()
+    }
+}
+
+fn ident(element: &Element) -> u8 {
+    element.settings().ident.into()
+}
+
+fn fail(element: &Element) -> u8 {
+    element.settings().fail.into()
+}
+
+/// Types other than Cooling have ON 0 and SPEED 0.
+fn fan_settings(element: &Element) -> FanSettings {
+    match *element {
+        Element::Cooling { settings, .. } => settings,
+        Element::Temperature { settings, .. }
+        | Element::Voltage { settings, .. }
+        | Element::Current { settings, .. } => FanSettings {
+            common: settings,
+            on: false,
+            speed: 0,
+        },
+    }
+}
+
+fn upper_reading(element: &Element) -> u8 {
+    reading(element)[0]
+}
+
+fn lower_reading(element: &Element) -> u8 {
+    reading(element)[1]
+}
+
+fn reading(element: &Element) -> [u8; 2] {
+    match *element {
+        Element::Cooling { reading, .. } | Element::Temperature { reading, .. } => {
+            reading.to_be_bytes()
+        }
+        Element::Voltage { reading, .. } | Element::Current { reading, .. } => {
+            reading.to_be_bytes()
         }
     }
-
-    /// The sixteen bytes in a status record.
-    pub fn entry(&self) -> [u8; 16] {
-        let entry = match *self {
-            Shown::Overall { code } => Entry {
-                code,
-                ..Entry::default()
-            },
-            Shown::Cooling {
-                code,
-                settings,
-                on,
-                off,
-                speed,
-                reading,
-            } => Entry {
-                code,
-                settings,
-                on,
-                off,
-                speed,
-                reading: reading.to_be_bytes(),
-                ..Entry::default()
-            },
-            Shown::Temperature {
-                code,
-                settings,
-                reading,
-                limits,
-            } => Entry {
-                code,
-                settings,
-                reading: u16::from(reading).to_be_bytes(),
-                limits,
-                ..Entry::default()
-            },
-            Shown::Voltage {
-                code,
-                settings,
-                reading,
-                limits,
-            }
-            | Shown::Current {
-                code,
-                settings,
-                reading,
-                limits,
-            } => Entry {
-                code,
-                settings,
-                reading: reading.to_be_bytes(),
-                limits,
-                ..Entry::default()
-            },
-        };
-        entry.bytes()
-    }
 }
 
-fn byte0(code: u8, settings: Settings) -> u8 {
-    flag(settings.prdfail, 6) + flag(settings.disabled, 5) + flag(settings.swap, 4) + code
+fn critical_over(element: &Element) -> u8 {
+    element.verdict().limits.critical_over.into()
 }
 
-/// The fields of a record's entry, whatever the place.
-#[derive(Default)]
-struct Entry {
-    code: u8,
-    settings: Settings,
-    on: bool,
-    off: bool,
-    speed: u8,
-    reading: [u8; 2],
-    limits: Limits,
+fn warning_over(element: &Element) -> u8 {
+    element.verdict().limits.warning_over.into()
 }
 
-impl Entry {
-    /// A flag is set if its byte is 1.
-    fn parse(bytes: [u8; 16]) -> Entry {
-        let [code, settings @ .., on, off, speed, _, upper, lower, critical_over, warning_over, warning_under, critical_under] =
-            bytes;
-        let [prdfail, disabled, swap, ident, fail] = settings.map(is_one);
-        Entry {
-            code,
-            settings: Settings {
-                prdfail,
-                disabled,
-                swap,
-                ident,
-                fail,
-            },
-            on: is_one(on),
-            off: is_one(off),
-            speed,
-            reading: [upper, lower],
-            limits: Limits {
-                critical_over: is_one(critical_over),
-                warning_over: is_one(warning_over),
-                warning_under: is_one(warning_under),
-                critical_under: is_one(critical_under),
-            },
-        }
-    }
-
-    fn bytes(&self) -> [u8; 16] {
-        let [upper, lower] = self.reading;
-        [
-            self.code,
-            self.settings.prdfail.into(),
-            self.settings.disabled.into(),
-            self.settings.swap.into(),
-            self.settings.ident.into(),
-            self.settings.fail.into(),
-            self.on.into(),
-            self.off.into(),
-            self.speed,
-            0,
-            upper,
-            lower,
-            self.limits.critical_over.into(),
-            self.limits.warning_over.into(),
-            self.limits.warning_under.into(),
-            self.limits.critical_under.into(),
-        ]
-    }
+fn warning_under(element: &Element) -> u8 {
+    element.verdict().limits.warning_under.into()
 }
 
-fn is_one(byte: u8) -> bool {
-    byte == 1
+fn critical_under(element: &Element) -> u8 {
+    element.verdict().limits.critical_under.into()
 }

@@ -1,6 +1,7 @@
 /* agree ROUNDS: every call on random shelves, pages, records and wishes, good and spoilt, by the library and by plain C. Both
  * get the same memory and must leave the same: answers, lengths and every lent byte. Each answer that a call can give must
- * come up. The random numbers are the same in every run. */
+ * come up, and each byte of a status record's entry must be the reason of a refusal, if it can. The random numbers are the same
+ * in every run. */
 #include "plain.h"
 
 #include <stdio.h>
@@ -59,6 +60,25 @@ static const struct {
 };
 
 static unsigned given[CALLS][ANSWERS];
+
+/* The entries of a status record by what they stand for, and the bytes of each that may have any value. How often the record was
+ * refused for each byte of them, because it was one too large. */
+enum { SORTS = 5, ENTRY_LENGTH = sizeof(struct ses_shown) };
+
+#define BYTE(field) (1u << offsetof(struct ses_shown, of.field))
+
+static const struct {
+    const char *name;
+    unsigned any_value;
+} sorts[SORTS] = {
+    {"overall", 0},
+    {"cooling", BYTE(cooling.speed[1])},
+    {"temperature", BYTE(temperature.temperature)},
+    {"voltage", BYTE(voltage.voltage[0]) | BYTE(voltage.voltage[1])},
+    {"current", BYTE(current.current[0]) | BYTE(current.current[1])},
+};
+
+static unsigned refused_for[SORTS][ENTRY_LENGTH];
 
 /* What both sides start from, and what each left. */
 static struct lent start, library, plain;
@@ -319,15 +339,66 @@ static void make_odd_configuration_page(void)
     put_page_length();
 }
 
-/* Spoils a record of this many bytes in use, its head now and then. */
-static void spoil_record(void *record, size_t length)
+/* Spoils a byte of a record of this many bytes in use, its head now and then. Hands back which. */
+static size_t spoil_record(void *record, size_t length)
 {
-    uint8_t *place = (uint8_t *)record + below(one_in(4) ? 4 : (uint32_t)length);
+    size_t at = below(one_in(4) ? 4 : (uint32_t)length);
+    uint8_t *place = (uint8_t *)record + at;
     switch (below(6)) {
     case 0: *place = (uint8_t)below(3); break;
     case 1: *place = (uint8_t)(1u << below(8)); break;
     case 2: *place = (uint8_t)below(256); break;
     }
+    return at;
+}
+
+/* 0 for an overall entry, else 1 and up by the type. */
+static unsigned sort_of_entry(size_t entry)
+{
+    const uint8_t *type = good + 44;
+    for (; entry > type[1]; type += 36)
+        entry -= 1u + type[1];
+    if (entry == 0)
+        return 0;
+    switch (type[0]) {
+    case COOLING: return 1;
+    case TEMPERATURE: return 2;
+    case VOLTAGE: return 3;
+    default: return 4;
+    }
+}
+
+/* Puts a number that is just past some field's limit into any byte of an entry, overall or not. Hands back which. */
+static size_t pass_limit_in_entry(void)
+{
+    static const uint8_t just_past[] = {1, 2, 8, 9};
+    unsigned t = below(good[40]), entry = t, count = good[45 + 36 * t];
+    for (unsigned before = 0; before < t; before++)
+        entry += good[45 + 36 * before];
+    if (count > 0 && !one_in(5))
+        entry += 1 + below(count);
+    size_t at = 4 + ENTRY_LENGTH * entry + below(ENTRY_LENGTH);
+    ((uint8_t *)&start.status)[at] = just_past[below(sizeof just_past)];
+    return at;
+}
+
+/* Would the status record be as it should if its byte `at` were one less? */
+static int one_too_large(size_t at)
+{
+    struct ses_status less = start.status;
+    uint8_t page[OUT_ROOM];
+    uint32_t length;
+    ((uint8_t *)&less)[at]--;
+    return plain_rewrite_status(good, SES_CONFIGURATION_LENGTH, &less, page, sizeof page, &length) == SES_ACCEPTED;
+}
+
+/* Counts a status record that was refused only for its byte `at`, which is not as the reader handed it back. */
+static void count_refused_byte(size_t at)
+{
+    int own_configuration = configuration_length == SES_CONFIGURATION_LENGTH &&
+                            memcmp(start.configuration, good, SES_CONFIGURATION_LENGTH) == 0;
+    if (at >= 4 && own_configuration && plain.answer == SES_NOT_ALLOWED && one_too_large(at))
+        refused_for[sort_of_entry((at - 4) / ENTRY_LENGTH)][(at - 4) % ENTRY_LENGTH]++;
 }
 
 static void compare_configuration(void)
@@ -353,8 +424,10 @@ static void compare_status(void)
     spoil_page();
     BOTH(READ_STATUS, read_status, CONFIGURATION, PAGE, &at->status);
     start.status = record;
-    spoil_record(&start.status, 4 + 16 * (good[40] + elements));
+    size_t in_use = 4 + ENTRY_LENGTH * (good[40] + elements);
+    size_t spoilt = one_in(2) ? pass_limit_in_entry() : spoil_record(&start.status, in_use);
     BOTH(REWRITE_STATUS, rewrite_status, CONFIGURATION, &at->status, OUT);
+    count_refused_byte(spoilt);
 }
 
 static void compare_thresholds(void)
@@ -459,6 +532,20 @@ static int all_given(void)
     return right;
 }
 
+/* Each byte of an entry that can be the reason of a refusal was, and no other. */
+static int all_refused(void)
+{
+    int right = 1;
+    for (unsigned sort = 0; sort < SORTS; sort++)
+        for (unsigned at = 0; at < ENTRY_LENGTH; at++)
+            if ((refused_for[sort][at] == 0) != (sorts[sort].any_value >> at & 1)) {
+                fprintf(stderr, "agree: byte %u of a status record's %s entry was refused %u times\n", at, sorts[sort].name,
+                        refused_for[sort][at]);
+                right = 0;
+            }
+    return right;
+}
+
 static void print_given(void)
 {
     printf("%-22s", "");
@@ -487,7 +574,7 @@ int main(int argc, char **argv)
         compare_apply();
         compare_build();
     }
-    if (!all_given())
+    if (!(all_given() & all_refused()))
         return 1;
     printf("The library and plain C agree on %ld random shelves and their pages. How often each call gave each answer:\n", rounds);
     print_given();

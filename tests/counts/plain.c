@@ -436,36 +436,52 @@ static bool status_page_allowed(const uint8_t *front, const uint8_t *page)
     return true;
 }
 
+/* Four bits as four flags, the highest first. */
+static const uint8_t flags[16][4] = {
+    {0, 0, 0, 0}, {0, 0, 0, 1}, {0, 0, 1, 0}, {0, 0, 1, 1}, {0, 1, 0, 0}, {0, 1, 0, 1}, {0, 1, 1, 0}, {0, 1, 1, 1},
+    {1, 0, 0, 0}, {1, 0, 0, 1}, {1, 0, 1, 0}, {1, 0, 1, 1}, {1, 1, 0, 0}, {1, 1, 0, 1}, {1, 1, 1, 0}, {1, 1, 1, 1},
+};
+
+static void put_flags(struct ses_shown *shown, size_t at, unsigned bits)
+{
+    memcpy((uint8_t *)shown + at, flags[bits], 4);
+}
+
+/* Flags that stand together are put at once. Where they are three, the byte in front of them is put after that. */
 static void show(struct ses_shown *shown, uint8_t type, const uint8_t *slot)
 {
     uint8_t first = slot[0], second = slot[1], third = slot[2], fourth = slot[3];
-    *shown = (struct ses_shown){.code = first & 0x0F, .prdfail = first >> 6, .disabled = first >> 5 & 1,
-                                .swap = first >> 4 & 1, .ident = second >> 7};
+    memset(&shown->of, 0, sizeof shown->of);
+    put_flags(shown, offsetof(struct ses_shown, code), first >> 4);
+    shown->code = first & 0x0F;
     switch (type) {
     case COOLING:
-        shown->fail = fourth >> 6;
-        shown->on = fourth >> 5 & 1;
-        shown->off = fourth >> 4 & 1;
-        shown->speed = fourth & 7;
-        shown->reading[0] = second & 7;
-        shown->reading[1] = third;
+        shown->of.cooling.ident = second >> 7;
+        shown->of.cooling.speed[0] = second & 7;
+        put_flags(shown, offsetof(struct ses_shown, of.cooling.speed[1]), fourth >> 4);
+        shown->of.cooling.speed[1] = third;
+        shown->of.cooling.speed_code = fourth & 7;
         break;
     case TEMPERATURE:
-        shown->fail = second >> 6 & 1;
-        shown->reading[1] = third;
-        shown->high_critical = fourth >> 3;
-        shown->high_warning = fourth >> 2 & 1;
-        shown->low_critical = fourth >> 1 & 1;
-        shown->low_warning = fourth & 1;
+        shown->of.temperature.ident = second >> 7;
+        shown->of.temperature.fail = second >> 6 & 1;
+        shown->of.temperature.temperature = third;
+        put_flags(shown, offsetof(struct ses_shown, of.temperature.ot_failure), fourth);
+        break;
+    case VOLTAGE:
+        shown->of.voltage.ident = second >> 7;
+        shown->of.voltage.fail = second >> 6 & 1;
+        put_flags(shown, offsetof(struct ses_shown, of.voltage.warn_over), second & 0x0F);
+        shown->of.voltage.voltage[0] = third;
+        shown->of.voltage.voltage[1] = fourth;
         break;
     default:
-        shown->fail = second >> 6 & 1;
-        shown->reading[0] = third;
-        shown->reading[1] = fourth;
-        shown->high_warning = second >> 3 & 1;
-        shown->low_warning = second >> 2 & 1;
-        shown->high_critical = second >> 1 & 1;
-        shown->low_critical = second & 1;
+        shown->of.current.ident = second >> 7;
+        shown->of.current.fail = second >> 6 & 1;
+        shown->of.current.warn_over = second >> 3 & 1;
+        shown->of.current.crit_over = second >> 1 & 1;
+        shown->of.current.current[0] = third;
+        shown->of.current.current[1] = fourth;
     }
 }
 
@@ -497,27 +513,51 @@ uint8_t plain_read_status(const uint8_t *configuration, size_t configuration_len
     return SES_ACCEPTED;
 }
 
-static bool overall_shown_allowed(const struct ses_shown *s)
+/* The bits that an entry may have, byte by byte. */
+static const struct ses_shown overall_bits = {.code = 0x0F};
+static const struct ses_shown cooling_bits = {
+    .code = 0x0F, .prdfail = 1, .disabled = 1, .swap = 1,
+    .of.cooling = {.ident = 1, .speed = {7, 0xFF}, .fail = 1, .rqsted_on = 1, .off = 1, .speed_code = 7}};
+static const struct ses_shown temperature_bits = {
+    .code = 0x0F, .prdfail = 1, .disabled = 1, .swap = 1,
+    .of.temperature = {.ident = 1, .fail = 1, .temperature = 0xFF, .ot_failure = 1, .ot_warning = 1, .ut_failure = 1,
+                       .ut_warning = 1}};
+static const struct ses_shown voltage_bits = {
+    .code = 0x0F, .prdfail = 1, .disabled = 1, .swap = 1,
+    .of.voltage = {.ident = 1, .fail = 1, .warn_over = 1, .warn_under = 1, .crit_over = 1, .crit_under = 1,
+                   .voltage = {0xFF, 0xFF}}};
+static const struct ses_shown current_bits = {
+    .code = 0x0F, .prdfail = 1, .disabled = 1, .swap = 1,
+    .of.current = {.ident = 1, .fail = 1, .warn_over = 1, .crit_over = 1, .current = {0xFF, 0xFF}}};
+
+static const struct ses_shown *shown_bits(uint8_t type)
 {
-    return s->code <= HIGHEST_CODE &&
-           (s->prdfail | s->disabled | s->swap | s->ident | s->fail | s->on | s->off | s->speed | s->reading[0] |
-            s->reading[1] | s->high_critical | s->high_warning | s->low_warning | s->low_critical) == 0;
+    switch (type) {
+    case COOLING: return &cooling_bits;
+    case TEMPERATURE: return &temperature_bits;
+    case VOLTAGE: return &voltage_bits;
+    default: return &current_bits;
+    }
 }
 
-static bool shown_allowed(uint8_t type, const struct ses_shown *s)
+/* An entry as two numbers, to test eight bytes at once; their order does not matter. */
+struct halves {
+    uint64_t front, back;
+};
+
+_Static_assert(sizeof(struct ses_shown) == sizeof(struct halves), "an entry has two halves");
+
+static struct halves halves_of(const struct ses_shown *s)
 {
-    if (s->code > HIGHEST_CODE ||
-        (s->prdfail | s->disabled | s->swap | s->ident | s->fail | s->on | s->off | s->high_critical |
-         s->high_warning | s->low_warning | s->low_critical) > 1)
-        return false;
-    if (type == COOLING)
-        return s->speed <= 7 && s->reading[0] <= 7 &&
-               (s->high_critical | s->high_warning | s->low_warning | s->low_critical) == 0;
-    if ((s->on | s->off | s->speed) != 0)
-        return false;
-    if (type == TEMPERATURE)
-        return s->reading[0] == 0;
-    return type == VOLTAGE || (s->low_warning | s->low_critical) == 0;
+    struct halves halves;
+    memcpy(&halves, s, sizeof halves);
+    return halves;
+}
+
+static bool shown_allowed(const struct ses_shown *s, struct halves bits)
+{
+    struct halves given = halves_of(s);
+    return ((given.front & ~bits.front) | (given.back & ~bits.back)) == 0 && s->code <= HIGHEST_CODE;
 }
 
 static bool status_record_allowed(const uint8_t *front, const struct ses_status *record)
@@ -527,10 +567,11 @@ static bool status_record_allowed(const uint8_t *front, const struct ses_status 
     const uint8_t *end = types_end(front);
     const struct ses_shown *entry = record->entry;
     for (const uint8_t *type = front + TYPES; type < end; type += TYPE_LENGTH) {
-        if (!overall_shown_allowed(entry++))
+        struct halves bits = halves_of(shown_bits(type[0]));
+        if (!shown_allowed(entry++, halves_of(&overall_bits)))
             return false;
         for (unsigned i = 0; i < type[1]; i++)
-            if (!shown_allowed(type[0], entry++))
+            if (!shown_allowed(entry++, bits))
                 return false;
     }
     return true;
@@ -538,23 +579,32 @@ static bool status_record_allowed(const uint8_t *front, const struct ses_status 
 
 static void put_shown(uint8_t *slot, uint8_t type, const struct ses_shown *s)
 {
+    const struct ses_cooling *c = &s->of.cooling;
+    const struct ses_temperature *t = &s->of.temperature;
+    const struct ses_voltage *v = &s->of.voltage;
+    const struct ses_current *a = &s->of.current;
     slot[0] = (uint8_t)(s->prdfail << 6 | s->disabled << 5 | s->swap << 4 | s->code);
     switch (type) {
     case COOLING:
-        slot[1] = (uint8_t)(s->ident << 7 | s->reading[0]);
-        slot[2] = s->reading[1];
-        slot[3] = (uint8_t)(s->fail << 6 | s->on << 5 | s->off << 4 | s->speed);
+        slot[1] = (uint8_t)(c->ident << 7 | c->speed[0]);
+        slot[2] = c->speed[1];
+        slot[3] = (uint8_t)(c->fail << 6 | c->rqsted_on << 5 | c->off << 4 | c->speed_code);
         break;
     case TEMPERATURE:
-        slot[1] = (uint8_t)(s->ident << 7 | s->fail << 6);
-        slot[2] = s->reading[1];
-        slot[3] = (uint8_t)(s->high_critical << 3 | s->high_warning << 2 | s->low_critical << 1 | s->low_warning);
+        slot[1] = (uint8_t)(t->ident << 7 | t->fail << 6);
+        slot[2] = t->temperature;
+        slot[3] = (uint8_t)(t->ot_failure << 3 | t->ot_warning << 2 | t->ut_failure << 1 | t->ut_warning);
+        break;
+    case VOLTAGE:
+        slot[1] = (uint8_t)(v->ident << 7 | v->fail << 6 | v->warn_over << 3 | v->warn_under << 2 | v->crit_over << 1 |
+                            v->crit_under);
+        slot[2] = v->voltage[0];
+        slot[3] = v->voltage[1];
         break;
     default:
-        slot[1] = (uint8_t)(s->ident << 7 | s->fail << 6 | s->high_warning << 3 | s->low_warning << 2 |
-                            s->high_critical << 1 | s->low_critical);
-        slot[2] = s->reading[0];
-        slot[3] = s->reading[1];
+        slot[1] = (uint8_t)(a->ident << 7 | a->fail << 6 | a->warn_over << 3 | a->crit_over << 1);
+        slot[2] = a->current[0];
+        slot[3] = a->current[1];
     }
 }
 

@@ -5,10 +5,6 @@ use super::thresholds::ThresholdList;
 use super::{builder, configuration, control, threshold_out, Refusal};
 use crate::record::{self, Configuration, Shelf};
 
-pub const CONFIGURATION_BYTES: usize = 332;
-pub const STATUS_BYTES: usize = 1156;
-pub const THRESHOLDS_BYTES: usize = 292;
-
 /// The number of a call's answer, and all bytes of it as the door sends them.
 #[derive(Clone, Debug, PartialEq, Eq)]
 pub struct Answer {
@@ -19,8 +15,17 @@ pub struct Answer {
 impl Answer {
     /// The length of the page, for a call that writes one.
     pub fn written(&self) -> usize {
-        let length = self.bytes[1..5].try_into().expect("four bytes");
-        u32::from_be_bytes(length) as usize
+        self.wide_number(1)
+    }
+
+    /// The SELECTs on the page, for the call that builds one.
+    pub fn selects(&self) -> usize {
+        self.wide_number(5)
+    }
+
+    fn wide_number(&self, at: usize) -> usize {
+        let bytes = self.bytes[at..at + 4].try_into().expect("four bytes");
+        u32::from_be_bytes(bytes) as usize
     }
 }
 

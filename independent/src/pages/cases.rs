@@ -2,6 +2,7 @@
 
 mod acting;
 mod building;
+pub mod case;
 mod changes;
 pub mod control;
 mod reading;
@@ -11,24 +12,8 @@ pub mod threshold_out;
 pub mod wishes;
 mod writing;
 
-use super::calls::{Answer, Call};
 use crate::rng::Rng;
-
-pub struct Case {
-    pub call: &'static Call,
-    /// The buffers that the call only looks at.
-    pub inputs: Vec<Vec<u8>>,
-    /// The output buffer, record or shelf before the call.
-    pub lent: Vec<u8>,
-}
-
-pub type Offer<'a> = &'a mut dyn FnMut(Case);
-
-impl Case {
-    pub fn answer(&self) -> Answer {
-        self.call.answer(&self.inputs, &self.lent)
-    }
-}
+use case::Offer;
 
 pub fn offer_all(rng: &mut Rng, offer: Offer) {
     writing::offer_all(rng, offer);
@@ -37,38 +22,4 @@ pub fn offer_all(rng: &mut Rng, offer: Offer) {
     control::offer_all(rng, offer);
     threshold_out::offer_all(rng, offer);
     building::offer_all(rng, offer);
-}
-
-const LONGEST_PAGE: usize = 65_539;
-/// As long as any page that a shelf has, and longer.
-const ROOM: usize = 400;
-
-/// A call that writes, with an output buffer of a telling length.
-fn writing_case(rng: &mut Rng, call: &'static Call, inputs: Vec<Vec<u8>>) -> Case {
-    let page = page_written(call, &inputs).len();
-    let length = output_length(rng, page);
-    Case {
-        call,
-        inputs,
-        lent: rng.bytes(length),
-    }
-}
-
-/// Empty if the call refuses.
-fn page_written(call: &Call, inputs: &[Vec<u8>]) -> Vec<u8> {
-    let answer = call.answer(inputs, &[0; ROOM]);
-    let out = &answer.bytes[answer.bytes.len() - ROOM..];
-    out[..answer.written()].to_vec()
-}
-
-fn output_length(rng: &mut Rng, page: usize) -> usize {
-    match rng.range(0, 199) {
-        0 => rng.pick(&[LONGEST_PAGE, LONGEST_PAGE + 1, LONGEST_PAGE + 5, 2 * 65_536]),
-        1..=10 => rng.range(0, 8),
-        11..=30 => page.saturating_sub(1),
-        31..=50 => rng.range(0, page),
-        51..=120 => page,
-        121..=140 => page + 1,
-        _ => page + rng.range(2, 64),
-    }
 }

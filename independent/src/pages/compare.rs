@@ -1,7 +1,8 @@
 //! Compares the twelve calls on pages with the library's.
 
-use super::cases::{self, Case};
+use super::cases::{self, case::Case};
 use super::coverage::Coverage;
+use crate::hex;
 use crate::library::{request, Library};
 use crate::rng::Rng;
 use std::process::exit;
@@ -80,8 +81,5 @@ fn stop(case: &Case, answer: &[u8], expected: &[u8]) -> ! {
 
 fn print_bytes(what: &str, bytes: &[u8]) {
     println!("{what}, {} bytes:", bytes.len());
-    for line in bytes.chunks(32) {
-        let bytes: Vec<String> = line.iter().map(|byte| format!("{byte:02X}")).collect();
-        println!("{}", bytes.join(" "));
-    }
+    hex::print(bytes);
 }

@@ -1,68 +1,137 @@
 //! How often the calls compared brought up each thing that they can.
 
-use super::builder;
-use super::calls::{self, Answer, APPLY_CONTROL, APPLY_THRESHOLDS, BUILD_CONTROL, WRITE_STATUS};
-use super::cases::Case;
+use super::calls::{
+    self, Answer, APPLY_CONTROL, APPLY_THRESHOLDS, BUILD_CONTROL, READ_STATUS, REWRITE_STATUS,
+    WRITE_STATUS,
+};
+use super::cases::case::Case;
 use super::status::Status;
-use super::{ElementPage, TypeElements};
+use super::{parts, ElementPage, Refusal, TypeElements};
 use crate::bits::{bit, flag};
-use crate::record::{self, Group, Kind, Shelf};
-use crate::shown::Shown;
+use crate::limits::STATUS_ENTRY_BYTES;
+use crate::record::{self, Configuration, Group, Kind, Shelf};
+use crate::shown::Place;
 use std::collections::BTreeMap;
 use std::iter::zip;
 
 const LEAST_OF_EACH: usize = 100;
 
-/// The codes that a status page of a shelf can show.
-const CODES: [(&str, &[u8]); 5] = [
-    ("overall", &[0, 1, 2, 3, 6]),
-    ("cooling", &[1, 2]),
-    ("temperature", &[1, 2, 3, 6]),
-    ("voltage", &[1, 2, 3]),
-    ("current", &[1, 2, 3]),
+/// The numbers that can come up under each name.
+struct Table<'a> {
+    title: &'a str,
+    possible: &'a [(&'static str, &'a [u8])],
+}
+
+const CODES: Table = Table {
+    title: "codes on the status pages written",
+    possible: &[
+        ("overall", &[0, 1, 2, 3, 6]),
+        ("cooling", &[1, 2]),
+        ("temperature", &[1, 2, 3, 6]),
+        ("voltage", &[1, 2, 3]),
+        ("current", &[1, 2, 3]),
+    ],
+};
+
+/// The bytes of an entry that are a field of its place.
+const FIELDS: &[(&str, &[u8])] = &[
+    ("overall", &[0]),
+    ("cooling", &[0, 1, 2, 3, 4, 5, 6, 7, 8, 9, 10]),
+    ("temperature", &[0, 1, 2, 3, 4, 5, 6, 7, 8, 9, 10]),
+    ("voltage", &[0, 1, 2, 3, 4, 5, 6, 7, 8, 9, 10, 11]),
+    ("current", &[0, 1, 2, 3, 4, 5, 6, 7, 8, 9]),
 ];
 
-/// None, one, or more.
-const CHANGED: [(&str, &[u8]); 2] = [
-    ("apply_control", &[0, 1, 2]),
-    ("apply_thresholds", &[0, 1, 2]),
-];
+const READ: Table = Table {
+    title: "status fields read with their largest value, by byte of the entry",
+    possible: FIELDS,
+};
 
-/// 2 for the individual element's SELECT, 1 for the overall one's.
-const SELECTS: [(&str, &[u8]); 4] = [
-    ("cooling", &[0, 1, 2, 3]),
-    ("temperature", &[0, 1, 2, 3]),
-    ("voltage", &[0, 1, 2, 3]),
-    ("current", &[0, 1, 2, 3]),
-];
+const REWRITTEN: Table = Table {
+    title: "status fields written again with their largest value, by byte of the entry",
+    possible: FIELDS,
+};
 
-/// 4 for a nonzero individual byte, 2 for a nonzero overall one, 1 for a nonzero stored one.
-const SOURCES: [(&str, &[u8]); 4] = [
-    ("cooling", &[0]),
-    ("temperature", &[0, 1, 2, 3, 4, 5, 6, 7]),
-    ("voltage", &[0, 1, 2, 3, 4, 5, 6, 7]),
-    ("current", &[0, 1, 2, 3, 4, 5, 6, 7]),
-];
+/// Without the bytes that may have any value.
+const OUT_OF_RANGE: Table = Table {
+    title: "status records refused for one field just out of range, by byte of the entry",
+    possible: &[
+        ("overall", &[0]),
+        ("cooling", &[0, 1, 2, 3, 4, 5, 7, 8, 9, 10]),
+        ("temperature", &[0, 1, 2, 3, 4, 5, 7, 8, 9, 10]),
+        ("voltage", &[0, 1, 2, 3, 4, 5, 6, 7, 8, 9]),
+        ("current", &[0, 1, 2, 3, 4, 5, 6, 7]),
+    ],
+};
 
-/// None, one, two, or more.
-const BUILT: [(&str, &[u8]); 1] = [("SELECTs", &[0, 1, 2, 3])];
+const NOT_SHOWN: Table = Table {
+    title: "status records refused for one byte that shows nothing, by byte of the entry",
+    possible: &[
+        (
+            "overall",
+            &[1, 2, 3, 4, 5, 6, 7, 8, 9, 10, 11, 12, 13, 14, 15],
+        ),
+        ("cooling", &[11, 12, 13, 14, 15]),
+        ("temperature", &[11, 12, 13, 14, 15]),
+        ("voltage", &[12, 13, 14, 15]),
+        ("current", &[10, 11, 12, 13, 14, 15]),
+    ],
+};
 
-/// 2 for any individual element's SELECT, 1 for the overall one's. A type without elements has none.
-const BUILT_TYPES: [(&str, &[u8]); 5] = [
-    ("cooling", &[0, 1, 2, 3]),
-    ("temperature", &[0, 1, 2, 3]),
-    ("voltage", &[0, 1, 2, 3]),
-    ("current", &[0, 1, 2, 3]),
-    ("without elements", &[0]),
-];
+const CHANGED: Table = Table {
+    title: "accepted pages that changed no, one, more elements",
+    possible: &[
+        ("apply_control", &[0, 1, 2]),
+        ("apply_thresholds", &[0, 1, 2]),
+    ],
+};
 
-/// 2 for RST SWAP, 1 for a speed code other than 0.
-const BUILT_OVERALL: [(&str, &[u8]); 4] = [
-    ("cooling", &[0, 1, 2, 3]),
-    ("temperature", &[0, 2]),
-    ("voltage", &[0, 2]),
-    ("current", &[0, 2]),
-];
+const SELECTS: Table = Table {
+    title: "elements by SELECT, individual 2, overall 1",
+    possible: &[
+        ("cooling", &[0, 1, 2, 3]),
+        ("temperature", &[0, 1, 2, 3]),
+        ("voltage", &[0, 1, 2, 3]),
+        ("current", &[0, 1, 2, 3]),
+    ],
+};
+
+const SOURCES: Table = Table {
+    title: "thresholds by nonzero bytes, individual 4, overall 2, stored 1",
+    possible: &[
+        ("cooling", &[0]),
+        ("temperature", &[0, 1, 2, 3, 4, 5, 6, 7]),
+        ("voltage", &[0, 1, 2, 3, 4, 5, 6, 7]),
+        ("current", &[0, 1, 2, 3, 4, 5, 6, 7]),
+    ],
+};
+
+const BUILT: Table = Table {
+    title: "pages built with no, one, two, more SELECTs",
+    possible: &[("SELECTs", &[0, 1, 2, 3])],
+};
+
+/// A type without elements has no SELECT.
+const BUILT_TYPES: Table = Table {
+    title: "types on pages built by SELECT, any individual 2, overall 1",
+    possible: &[
+        ("cooling", &[0, 1, 2, 3]),
+        ("temperature", &[0, 1, 2, 3]),
+        ("voltage", &[0, 1, 2, 3]),
+        ("current", &[0, 1, 2, 3]),
+        ("without elements", &[0]),
+    ],
+};
+
+const BUILT_OVERALL: Table = Table {
+    title: "overall SELECTs on pages built, with RST SWAP 2, a speed code 1",
+    possible: &[
+        ("cooling", &[0, 1, 2, 3]),
+        ("temperature", &[0, 2]),
+        ("voltage", &[0, 2]),
+        ("current", &[0, 2]),
+    ],
+};
 
 /// How often each number came up under each name.
 #[derive(Default)]
@@ -72,6 +141,10 @@ struct Tally(BTreeMap<(&'static str, u8), usize>);
 pub struct Coverage {
     outcomes: Tally,
     codes: Tally,
+    read: Tally,
+    rewritten: Tally,
+    out_of_range: Tally,
+    not_shown: Tally,
     changed: Tally,
     selects: Tally,
     sources: Tally,
@@ -85,10 +158,20 @@ impl Tally {
         *self.0.entry((name, number)).or_insert(0) += 1;
     }
 
+    /// The fields of a status record that have their largest value.
+    fn count_largest(&mut self, configuration: &[u8], record: &[u8]) {
+        for byte in bytes_of_entries(configuration, record) {
+            if byte.most != 0 && byte.value == byte.most {
+                self.count(place_name(byte.place), byte.at);
+            }
+        }
+    }
+
     /// One line for each name; false if a number that can come up did so too rarely.
-    fn print(&self, possible: &[(&'static str, &[u8])]) -> bool {
+    fn print(&self, table: &Table) -> bool {
+        println!("pages: {}", table.title);
         let mut enough = true;
-        for (name, numbers) in possible {
+        for (name, numbers) in table.possible {
             print!("  {name:21}");
             for number in *numbers {
                 let times = self.0.get(&(*name, *number)).copied().unwrap_or(0);
@@ -105,68 +188,52 @@ impl Coverage {
     pub fn count(&mut self, case: &Case, answer: &Answer) {
         let Case { call, inputs, lent } = case;
         self.outcomes.count(call.name, answer.number);
+        if call.letter == REWRITE_STATUS.letter && answer.number == Refusal::NotAllowed as u8 {
+            self.count_fault(&inputs[0], &inputs[1]);
+        }
         if answer.number != 0 {
             return;
         }
         if call.letter == WRITE_STATUS.letter {
             self.count_codes(&shelf_of(&inputs[0]));
+        } else if call.letter == READ_STATUS.letter {
+            self.read.count_largest(&inputs[0], &answer.bytes[1..]);
+        } else if call.letter == REWRITE_STATUS.letter {
+            self.rewritten.count_largest(&inputs[0], &inputs[1]);
         } else if call.letter == APPLY_CONTROL.letter {
-            let (before, after) = (shelf_of(lent), shelf_of(&answer.bytes[1..]));
-            self.count_changed(call.name, &before, &after);
+            let before = self.count_changed(call.name, lent, answer);
             self.count_selects(&before, &inputs[0]);
         } else if call.letter == APPLY_THRESHOLDS.letter {
-            let (before, after) = (shelf_of(lent), shelf_of(&answer.bytes[1..]));
-            self.count_changed(call.name, &before, &after);
+            let before = self.count_changed(call.name, lent, answer);
             self.count_sources(&before, &inputs[0]);
         } else if call.letter == BUILD_CONTROL.letter {
-            self.count_built(
-                &shelf_of(&inputs[0]),
-                &answer.bytes[9..][..answer.written()],
-            );
+            self.count_built(&shelf_of(&inputs[0]), answer);
         }
     }
 
     /// False if something that can come up did so too rarely.
     pub fn print(&self) -> bool {
-        let outcomes = calls::ALL.map(|call| (call.name, call.outcomes));
-        let told: [(&str, &Tally, &[(&'static str, &[u8])]); 8] = [
-            ("by outcome", &self.outcomes, &outcomes),
-            ("codes on the status pages written", &self.codes, &CODES),
-            (
-                "accepted pages that changed no, one, more elements",
-                &self.changed,
-                &CHANGED,
-            ),
-            (
-                "elements by SELECT, individual 2, overall 1",
-                &self.selects,
-                &SELECTS,
-            ),
-            (
-                "thresholds by nonzero bytes, individual 4, overall 2, stored 1",
-                &self.sources,
-                &SOURCES,
-            ),
-            (
-                "pages built with no, one, two, more SELECTs",
-                &self.built,
-                &BUILT,
-            ),
-            (
-                "types on pages built by SELECT, any individual 2, overall 1",
-                &self.built_types,
-                &BUILT_TYPES,
-            ),
-            (
-                "overall SELECTs on pages built, with RST SWAP 2, a speed code 1",
-                &self.built_overall,
-                &BUILT_OVERALL,
-            ),
+        let outcomes = Table {
+            title: "by outcome",
+            possible: &calls::ALL.map(|call| (call.name, call.outcomes)),
+        };
+        let tallies = [
+            (&self.outcomes, &outcomes),
+            (&self.codes, &CODES),
+            (&self.read, &READ),
+            (&self.rewritten, &REWRITTEN),
+            (&self.out_of_range, &OUT_OF_RANGE),
+            (&self.not_shown, &NOT_SHOWN),
+            (&self.changed, &CHANGED),
+            (&self.selects, &SELECTS),
+            (&self.sources, &SOURCES),
+            (&self.built, &BUILT),
+            (&self.built_types, &BUILT_TYPES),
+            (&self.built_overall, &BUILT_OVERALL),
         ];
         let mut enough = true;
-        for (title, tally, possible) in told {
-            println!("pages: {title}");
-            enough &= tally.print(possible);
+        for (tally, table) in tallies {
+            enough &= tally.print(table);
         }
         if !enough {
             println!("too few: at least {LEAST_OF_EACH} of each are wanted");
@@ -175,21 +242,32 @@ impl Coverage {
     }
 
     fn count_codes(&mut self, shelf: &Shelf) {
-        for shown in Status::of(shelf).shown {
-            match shown {
-                Shown::Overall { code } => self.codes.count("overall", code),
-                Shown::Cooling { code, .. } => self.codes.count("cooling", code),
-                Shown::Temperature { code, .. } => self.codes.count("temperature", code),
-                Shown::Voltage { code, .. } => self.codes.count("voltage", code),
-                Shown::Current { code, .. } => self.codes.count("current", code),
+        for (place, shown) in zip(shelf.configuration().places(), Status::of(shelf).shown) {
+            self.codes.count(place_name(place), shown.code());
+        }
+    }
+
+    /// Of a status record with a byte too large, if it is the only one.
+    fn count_fault(&mut self, configuration: &[u8], record: &[u8]) {
+        let bytes = bytes_of_entries(configuration, record);
+        let mut faults = bytes.iter().filter(|byte| byte.value > byte.most);
+        if let (Some(fault), None, [0 | 1, 0 | 1, ..]) = (faults.next(), faults.next(), record) {
+            let name = place_name(fault.place);
+            if fault.most == 0 {
+                self.not_shown.count(name, fault.at);
+            } else if fault.value == fault.most + 1 {
+                self.out_of_range.count(name, fault.at);
             }
         }
     }
 
-    fn count_changed(&mut self, call: &'static str, before: &Shelf, after: &Shelf) {
+    /// Hands back the shelf as it was before.
+    fn count_changed(&mut self, call: &'static str, lent: &[u8], answer: &Answer) -> Shelf {
+        let (before, after) = (shelf_of(lent), shelf_of(&answer.bytes[1..]));
         let elements = zip(before.elements(), after.elements());
         let changed = elements.filter(|(before, after)| before != after).count();
         self.changed.count(call, changed.min(2) as u8);
+        before
     }
 
     fn count_selects(&mut self, shelf: &Shelf, page: &[u8]) {
@@ -201,9 +279,9 @@ impl Coverage {
         }
     }
 
-    fn count_built(&mut self, shelf: &Shelf, page: &[u8]) {
-        self.built
-            .count("SELECTs", builder::selects(page).min(3) as u8);
+    fn count_built(&mut self, shelf: &Shelf, answer: &Answer) {
+        self.built.count("SELECTs", answer.selects().min(3) as u8);
+        let page = &answer.bytes[9..][..answer.written()];
         for (group, asked) in by_group(shelf, page) {
             let name = if group.elements.is_empty() {
                 "without elements"
@@ -249,6 +327,38 @@ fn by_group<'a>(shelf: &'a Shelf, page: &[u8]) -> impl Iterator<Item = (&'a Grou
     let configuration = shelf.configuration();
     let page = ElementPage::read(page[0], &configuration, page).expect("an accepted page");
     zip(&shelf.groups, page.by_type(&configuration))
+}
+
+/// A byte of an entry, and the largest value that its place allows there, 0 if it shows nothing.
+struct EntryByte {
+    place: Place,
+    at: u8,
+    value: u8,
+    most: u8,
+}
+
+/// Of a status record that has as many entries as the configuration has places.
+fn bytes_of_entries(configuration: &[u8], record: &[u8]) -> Vec<EntryByte> {
+    let configuration = Configuration::read(configuration).expect("a well-formed configuration");
+    let (_, entries) =
+        parts::<STATUS_ENTRY_BYTES>(&configuration, record).expect("an entry for each place");
+    let bytes = zip(configuration.places(), entries).flat_map(|(place, entry)| {
+        let values = zip(0.., zip(entry, place.largest()));
+        values.map(move |(at, (value, most))| EntryByte {
+            place,
+            at,
+            value,
+            most,
+        })
+    });
+    bytes.collect()
+}
+
+fn place_name(place: Place) -> &'static str {
+    match place {
+        Place::Overall => "overall",
+        Place::Individual(kind) => kind_name(kind),
+    }
 }
 
 fn kind_name(kind: Kind) -> &'static str {

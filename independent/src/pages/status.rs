@@ -3,6 +3,7 @@
 use super::{joined, parts, ElementPage, Refusal};
 use crate::bits::{bit, flag};
 use crate::element::Code;
+use crate::limits::STATUS_ENTRY_BYTES;
 use crate::record::{Configuration, Element, Group, Shelf};
 use crate::shown::{Place, Shown};
 use std::iter::{once, zip};
@@ -63,7 +64,7 @@ impl Status {
     }
 
     pub fn record(&self) -> Vec<u8> {
-        let entries: Vec<[u8; 16]> = self.shown.iter().map(Shown::entry).collect();
+        let entries: Vec<[u8; STATUS_ENTRY_BYTES]> = self.shown.iter().map(Shown::entry).collect();
         joined([self.noncritical.into(), self.critical.into()], &entries)
     }
 
@@ -83,9 +84,7 @@ fn overall(group: &Group) -> Shown {
         let mut elements = group.elements.iter();
         elements.any(|element| element.verdict().code == *code)
     });
-    Shown::Overall {
-        code: worst.map_or(0, Code::number),
-    }
+    Shown::overall(worst.map_or(0, Code::number))
 }
 
 fn all_allowed<T>(

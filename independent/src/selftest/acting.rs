@@ -1,35 +1,23 @@
 //! The paper's numbers for pages that act, examples worked out from its rules, and laws that follow from them.
 
-use super::{
-    block_a, current, fan, fan_with, fans_a, group, plain, shelf_a, shelf_a_of, temperature, with,
-    Checks,
+use super::checks::Checks;
+use super::examples::{
+    block_a, current, fan, fan_with, group, plain, shelf_a, shelf_a_of, temperature,
+    wishes_of_the_paper, with, NOISE, RST_SWAP, SPEED_5, SWAP, UNSELECTED,
 };
-use crate::cases::{self, ELEMENTS_AT, ELEMENT_BYTES};
+use crate::cases;
+use crate::limits::{ELEMENTS_AT, ELEMENT_BYTES, HIGHEST_SPEED, TYPES_AT};
 use crate::pages::calls::{apply_control, apply_thresholds, write_status, Answer};
 use crate::pages::cases::{control, threshold_out};
-use crate::record::{Element, Kind, Settings, Shelf, Thresholds};
+use crate::record::{Element, Kind, Shelf, Thresholds};
 use crate::rng::Rng;
 
 const SEED: u64 = 0xAC7;
 const ROUNDS: usize = 500;
 
-pub(super) const UNSELECTED: [u8; 4] = [0; 4];
-pub(super) const SPEED_5: [u8; 4] = [0x80, 0x00, 0x00, 0x25];
-pub(super) const IDENT: [u8; 4] = [0x80, 0x80, 0x00, 0x20];
-pub(super) const RST_SWAP: [u8; 4] = [0x90, 0x00, 0x00, 0x20];
 const SELECTED: [u8; 4] = [0x80, 0x00, 0x00, 0x00];
-/// Every bit but SELECT.
-pub(super) const NOISE: [u8; 4] = [0x7F, 0xFF, 0xFF, 0xFF];
 
-pub(super) const SWAP: Settings = Settings {
-    prdfail: false,
-    disabled: false,
-    swap: true,
-    ident: false,
-    fail: false,
-};
-
-pub(super) fn check(checks: &mut Checks) {
+pub fn check(checks: &mut Checks) {
     fans_a_acting(checks);
     headers_for_a(checks);
     choosing(checks);
@@ -40,8 +28,7 @@ pub(super) fn check(checks: &mut Checks) {
     thresholds_taken(checks);
     thresholds_refused(checks);
     order_in_one_of_many(checks);
-    control_laws(checks);
-    threshold_laws(checks);
+    laws(checks);
 }
 
 fn control_page(elements: &[[u8; 4]]) -> Vec<u8> {
@@ -74,46 +61,11 @@ fn refused(number: u8, block: &[u8]) -> Answer {
 }
 
 fn fans_a_acting(checks: &mut Checks) {
-    let ident = Settings {
-        ident: true,
-        ..Settings::default()
-    };
-    let cases: [(&str, [Element; 3], [[u8; 4]; 4], [Element; 3]); 6] = [
-        (
-            "speed 5 for all",
-            fans_a(),
-            [SPEED_5, UNSELECTED, UNSELECTED, UNSELECTED],
-            [fan(5), fan(5), fan(5)],
-        ),
-        (
-            "speed 5 for the middle fan",
-            fans_a(),
-            [UNSELECTED, UNSELECTED, SPEED_5, UNSELECTED],
-            [fan(3), fan(5), fan(3)],
-        ),
-        (
-            "speed 5 for the first two",
-            fans_a(),
-            [UNSELECTED, SPEED_5, SPEED_5, UNSELECTED],
-            [fan(5), fan(5), fan(3)],
-        ),
-        (
-            "IDENT on all over speeds 3, 4, 5",
-            [fan(3), fan(4), fan(5)],
-            [IDENT, UNSELECTED, UNSELECTED, UNSELECTED],
-            [fan_with(ident, 3), fan_with(ident, 4), fan_with(ident, 5)],
-        ),
-        (
-            "SWAP of the first fan cleared",
-            [fan_with(SWAP, 3), fan(3), fan(3)],
-            [UNSELECTED, RST_SWAP, UNSELECTED, UNSELECTED],
-            fans_a(),
-        ),
-        ("no SELECT", fans_a(), [UNSELECTED; 4], fans_a()),
-    ];
-    for (what, before, elements, after) in cases {
-        let answer = apply_control(&shelf_a(before.to_vec()).block(), &control_page(&elements));
-        checks.equal(what, answer, accepted(&shelf_a(after.to_vec())));
+    for example in wishes_of_the_paper() {
+        let before = shelf_a(example.stored.to_vec()).block();
+        let answer = apply_control(&before, &control_page(&example.elements));
+        let after = shelf_a(example.wanted.to_vec());
+        checks.equal(example.what, answer, accepted(&after));
     }
     checks.equal("control elements that set SWAP", swap_setters(), 0);
 }
@@ -145,35 +97,40 @@ fn headers_for_a(checks: &mut Checks) {
         let page = page(code, &elements);
         checks.equal("length field for A", page[3], 0x14);
         checks.equal("page for A", call(&block, &page).number, 0);
-        let longer = [&page[..], &[0]].concat();
-        let other = 0x07 - code;
-        let cases: [(&str, u8, Vec<u8>); 12] = [
-            ("empty page", 2, Vec::new()),
-            ("page of 3 bytes", 2, page[..3].to_vec()),
-            ("3 bytes of another page", 2, vec![other, 0, 0]),
-            ("the other page", 3, with(&page, 0, &[other])),
-            ("other page, 25 bytes", 3, with(&longer, 0, &[other])),
-            ("23 bytes", 4, page[..23].to_vec()),
-            ("25 bytes", 4, longer.clone()),
-            ("25 bytes, said so", 4, with(&longer, 3, &[0x15])),
-            ("two fans", 4, with(&page[..20], 2, &[0x00, 0x10])),
-            ("generation 8", 5, with(&page, 7, &[8])),
-            ("25 bytes and generation 8", 4, with(&longer, 7, &[8])),
-            (
-                "generation 8 and byte 1",
-                5,
-                with(&with(&page, 7, &[8]), 1, &[0x80]),
-            ),
-        ];
-        for (what, number, page) in cases {
+        for (what, number, page) in flawed_headers(&page) {
             checks.equal(what, call(&block, &page), refused(number, &block));
         }
-        let broken = with(&block, 41, &[1]);
+        let broken = with(&block, TYPES_AT + 1, &[1]);
         let answer = call(&broken, &[]);
         checks.equal("broken shelf, empty page", answer, refused(1, &broken));
-        let answer = call(&block[..379], &page);
-        checks.equal("379 bytes of A", answer, refused(1, &block[..379]));
+        let shorter = &block[..block.len() - 1];
+        let answer = call(shorter, &page);
+        checks.equal("A but for a byte", answer, refused(1, shorter));
     }
+}
+
+/// Pages for A, spoiled, with the number of the refusal. The other page has the other code, 02h or 05h.
+fn flawed_headers(page: &[u8]) -> [(&'static str, u8, Vec<u8>); 12] {
+    let longer = [page, &[0]].concat();
+    let other = 0x07 - page[0];
+    [
+        ("empty page", 2, Vec::new()),
+        ("page of 3 bytes", 2, page[..3].to_vec()),
+        ("3 bytes of another page", 2, vec![other, 0, 0]),
+        ("the other page", 3, with(page, 0, &[other])),
+        ("other page, 25 bytes", 3, with(&longer, 0, &[other])),
+        ("23 bytes", 4, page[..23].to_vec()),
+        ("25 bytes", 4, longer.clone()),
+        ("25 bytes, said so", 4, with(&longer, 3, &[0x15])),
+        ("two fans", 4, with(&page[..20], 2, &[0x00, 0x10])),
+        ("generation 8", 5, with(page, 7, &[8])),
+        ("25 bytes and generation 8", 4, with(&longer, 7, &[8])),
+        (
+            "generation 8 and byte 1",
+            5,
+            with(&with(page, 7, &[8]), 1, &[0x80]),
+        ),
+    ]
 }
 
 fn choosing(checks: &mut Checks) {
@@ -220,7 +177,7 @@ fn shown(answer: &Answer) -> Vec<u8> {
 }
 
 fn requested_speeds(checks: &mut Checks) {
-    for code in 0..=7 {
+    for code in 0..=HIGHEST_SPEED {
         let elements = [UNSELECTED, [0x80, 0x00, 0x00, 0x20 + code]];
         let answer = apply_control(&shelf_a(vec![fan(3)]).block(), &control_page(&elements));
         let speed = if code == 0 { 3 } else { code };
@@ -323,24 +280,26 @@ fn temperature_with(bytes: [u8; 4]) -> Element {
     temperature(64, Thresholds::from_bytes(bytes))
 }
 
+/// Overall and individual bytes, with the number that they give over an element without thresholds.
+const THRESHOLDS_ASKED: [(Kind, [u8; 4], [u8; 4], u8); 14] = [
+    (Kind::Cooling, [0, 0, 0, 1], [0; 4], 7),
+    (Kind::Cooling, [0; 4], [1, 0, 0, 0], 7),
+    (Kind::Current, [0, 0, 1, 0], [0; 4], 7),
+    (Kind::Current, [0; 4], [0, 0, 0, 1], 7),
+    (Kind::Current, [0; 4], [9, 10, 0, 1], 7),
+    (Kind::Current, [0; 4], [9, 10, 0, 0], 8),
+    (Kind::Current, [9, 0, 0, 0], [0, 10, 0, 0], 8),
+    (Kind::Current, [9, 0, 0, 0], [10, 10, 0, 0], 0),
+    (Kind::Temperature, [9, 10, 0, 0], [0; 4], 8),
+    (Kind::Temperature, [9, 10, 0, 0], [0, 9, 0, 0], 0),
+    (Kind::Temperature, [0, 0, 9, 0], [0, 0, 0, 10], 8),
+    (Kind::Temperature, [0, 0, 10, 0], [0, 0, 0, 9], 0),
+    (Kind::Voltage, [0, 0, 10, 0], [0, 0, 0, 9], 8),
+    (Kind::Voltage, [0, 0, 9, 0], [0, 0, 0, 10], 0),
+];
+
 fn thresholds_refused(checks: &mut Checks) {
-    let cases: [(Kind, [u8; 4], [u8; 4], u8); 14] = [
-        (Kind::Cooling, [0, 0, 0, 1], [0; 4], 7),
-        (Kind::Cooling, [0; 4], [1, 0, 0, 0], 7),
-        (Kind::Current, [0, 0, 1, 0], [0; 4], 7),
-        (Kind::Current, [0; 4], [0, 0, 0, 1], 7),
-        (Kind::Current, [0; 4], [9, 10, 0, 1], 7),
-        (Kind::Current, [0; 4], [9, 10, 0, 0], 8),
-        (Kind::Current, [9, 0, 0, 0], [0, 10, 0, 0], 8),
-        (Kind::Current, [9, 0, 0, 0], [10, 10, 0, 0], 0),
-        (Kind::Temperature, [9, 10, 0, 0], [0; 4], 8),
-        (Kind::Temperature, [9, 10, 0, 0], [0, 9, 0, 0], 0),
-        (Kind::Temperature, [0, 0, 9, 0], [0, 0, 0, 10], 8),
-        (Kind::Temperature, [0, 0, 10, 0], [0, 0, 0, 9], 0),
-        (Kind::Voltage, [0, 0, 10, 0], [0, 0, 0, 9], 8),
-        (Kind::Voltage, [0, 0, 9, 0], [0, 0, 0, 10], 0),
-    ];
-    for (kind, overall, individual, number) in cases {
+    for (kind, overall, individual, number) in THRESHOLDS_ASKED {
         let block = shelf_a_of(kind, vec![plain(kind)]).block();
         let answer = apply_thresholds(&block, &threshold_page(&[overall, individual]));
         let what = format!("{kind:?}, {overall:?}, {individual:?}");
@@ -399,41 +358,58 @@ fn alike_but_for(from: usize, before: &[u8], after: &[u8]) -> bool {
     without(before) == without(after)
 }
 
-fn control_laws(checks: &mut Checks) {
-    let mut rng = Rng::new(SEED);
-    for _ in 0..ROUNDS {
-        let shelf = cases::shelf(&mut rng);
+/// A call that acts, the first of the four bytes of each element that it may change, and how an element of a
+/// page comes to ask for nothing.
+struct Law {
+    name: &'static str,
+    call: fn(&[u8], &[u8]) -> Answer,
+    accepted_page: fn(&mut Rng, &Shelf) -> Vec<u8>,
+    changed_from: usize,
+    without_effect: fn(&mut [u8]),
+}
+
+const LAWS: [Law; 2] = [
+    Law {
+        name: "control",
+        call: apply_control,
+        accepted_page: control::accepted_page,
+        changed_from: 0,
+        without_effect: |element| element[0] &= 0x7F,
+    },
+    Law {
+        name: "thresholds",
+        call: apply_thresholds,
+        accepted_page: threshold_out::accepted_page,
+        changed_from: 4,
+        without_effect: |element| element.fill(0),
+    },
+];
+
+impl Law {
+    fn hold(&self, checks: &mut Checks, shelf: &Shelf, page: &[u8]) {
         let before = shelf.block();
-        let page = control::accepted_page(&mut rng, &shelf);
-        let answer = apply_control(&before, &page);
-        checks.equal("control page accepted", answer.number, 0);
+        let answer = (self.call)(&before, page);
+        let what = |law: &str| format!("{}: {law}", self.name);
+        checks.equal(&what("accepted"), answer.number, 0);
         let after = &answer.bytes[1..];
-        checks.equal("settings alone", alike_but_for(0, &before, after), true);
-        let again = apply_control(after, &page);
-        checks.equal("the same page again", &again, &answer);
-        let mut unselected = page.clone();
-        for element in unselected[8..].chunks_mut(4) {
-            element[0] &= 0x7F;
-        }
-        let unchanged = apply_control(&before, &unselected);
-        checks.equal("no SELECT", unchanged, accepted(&shelf));
+        let only_these = alike_but_for(self.changed_from, &before, after);
+        checks.equal(&what("nothing else"), only_these, true);
+        let again = (self.call)(after, page);
+        checks.equal(&what("the same page again"), &again, &answer);
+        let mut idle = page.to_vec();
+        idle[8..].chunks_mut(4).for_each(self.without_effect);
+        let unchanged = (self.call)(&before, &idle);
+        checks.equal(&what("nothing asked"), unchanged, accepted(shelf));
     }
 }
 
-fn threshold_laws(checks: &mut Checks) {
-    let mut rng = Rng::new(SEED);
-    for _ in 0..ROUNDS {
-        let shelf = cases::shelf(&mut rng);
-        let before = shelf.block();
-        let page = threshold_out::accepted_page(&mut rng, &shelf);
-        let answer = apply_thresholds(&before, &page);
-        checks.equal("threshold page accepted", answer.number, 0);
-        let after = &answer.bytes[1..];
-        checks.equal("thresholds alone", alike_but_for(4, &before, after), true);
-        let again = apply_thresholds(after, &page);
-        checks.equal("the same page again", &again, &answer);
-        let zeros = [&page[..8], &vec![0; page.len() - 8]].concat();
-        let unchanged = apply_thresholds(&before, &zeros);
-        checks.equal("zeros", unchanged, accepted(&shelf));
+fn laws(checks: &mut Checks) {
+    for law in LAWS {
+        let mut rng = Rng::new(SEED);
+        for _ in 0..ROUNDS {
+            let shelf = cases::shelf(&mut rng);
+            let page = (law.accepted_page)(&mut rng, &shelf);
+            law.hold(checks, &shelf, &page);
+        }
     }
 }

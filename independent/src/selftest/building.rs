@@ -1,23 +1,25 @@
 //! The paper's pages for its wishes, examples worked out from its rules, and every page of small shelves held
 //! against the one built.
 
-use super::acting::{IDENT, NOISE, RST_SWAP, SPEED_5, SWAP, UNSELECTED};
-use super::{block_a, fan, fan_with, fans_a, group, plain, shelf_a, shelf_a_of, with, Checks};
-use crate::cases::{self, ELEMENTS_AT, ELEMENT_BYTES};
+use super::checks::Checks;
+use super::examples::{
+    block_a, fan, fan_with, fans_a, group, plain, shelf_a, shelf_a_of, wishes_of_the_paper, with,
+    Example, BEFORE, NOISE, RST_SWAP, SWAP, UNSELECTED,
+};
+use crate::cases;
 use crate::element::Request;
+use crate::limits::{ELEMENTS_AT, ELEMENT_BYTES, TYPES_AT};
 use crate::pages::calls::{apply_control, build_control, Answer};
 use crate::pages::cases::control;
 use crate::pages::cases::wishes::Few;
-use crate::record::{Element, Kind, Settings};
+use crate::record::{Element, Kind};
 use crate::rng::Rng;
 use std::collections::BTreeMap;
 
 const SEED: u64 = 0xB01D;
 const ROUNDS: usize = 300;
-/// Memory before a call.
-const BEFORE: u8 = 0xA5;
 
-pub(super) fn check(checks: &mut Checks) {
+pub fn check(checks: &mut Checks) {
     fans_a_wished(checks);
     order_of_refusals(checks);
     records_of_types(checks);
@@ -59,68 +61,33 @@ fn page_a(elements: [[u8; 4]; 4]) -> Vec<u8> {
     [&header[..], &elements.concat()].concat()
 }
 
+/// Beyond the paper's: all fans have SWAP and speeds of their own.
+fn swaps_wanted() -> [Example; 2] {
+    let stored = [3, 4, 5].map(|speed| fan_with(SWAP, speed));
+    [
+        Example {
+            what: "SWAP of two cleared, the last one's kept",
+            stored,
+            wanted: [fan(3), fan(4), fan_with(SWAP, 5)],
+            elements: [UNSELECTED, RST_SWAP, RST_SWAP, UNSELECTED],
+            selects: 2,
+        },
+        Example {
+            what: "SWAP of all cleared, speeds kept",
+            stored,
+            wanted: [fan(3), fan(4), fan(5)],
+            elements: [RST_SWAP, UNSELECTED, UNSELECTED, UNSELECTED],
+            selects: 1,
+        },
+    ]
+}
+
 fn fans_a_wished(checks: &mut Checks) {
-    let ident = Settings {
-        ident: true,
-        ..Settings::default()
-    };
-    let none = UNSELECTED;
-    let cases: [(&str, [Element; 3], [Element; 3], [[u8; 4]; 4], u8); 8] = [
-        (
-            "speed 5 for all",
-            fans_a(),
-            [fan(5), fan(5), fan(5)],
-            [SPEED_5, none, none, none],
-            1,
-        ),
-        (
-            "speed 5 for the middle fan",
-            fans_a(),
-            [fan(3), fan(5), fan(3)],
-            [none, none, SPEED_5, none],
-            1,
-        ),
-        (
-            "speed 5 for the first two",
-            fans_a(),
-            [fan(5), fan(5), fan(3)],
-            [none, SPEED_5, SPEED_5, none],
-            2,
-        ),
-        (
-            "speeds 3, 4, 5, IDENT for all",
-            [fan(3), fan(4), fan(5)],
-            [3, 4, 5].map(|speed| fan_with(ident, speed)),
-            [IDENT, none, none, none],
-            1,
-        ),
-        (
-            "SWAP of the first fan cleared",
-            [fan_with(SWAP, 3), fan(3), fan(3)],
-            fans_a(),
-            [none, RST_SWAP, none, none],
-            1,
-        ),
-        ("as stored", fans_a(), fans_a(), [none; 4], 0),
-        (
-            "SWAP of two cleared, the last one's kept",
-            [3, 4, 5].map(|speed| fan_with(SWAP, speed)),
-            [fan(3), fan(4), fan_with(SWAP, 5)],
-            [none, RST_SWAP, RST_SWAP, none],
-            2,
-        ),
-        (
-            "SWAP of all cleared, speeds kept",
-            [3, 4, 5].map(|speed| fan_with(SWAP, speed)),
-            [fan(3), fan(4), fan(5)],
-            [RST_SWAP, none, none, none],
-            1,
-        ),
-    ];
-    for (what, stored, wish, elements, selects) in cases {
-        let block = shelf_a(stored.to_vec()).block();
-        let answer = build_control(&block, &wanted(&wish), &[BEFORE; 30]);
-        checks.equal(what, answer, built(&page_a(elements), selects, 30));
+    for example in wishes_of_the_paper().chain(swaps_wanted()) {
+        let block = shelf_a(example.stored.to_vec()).block();
+        let answer = build_control(&block, &wanted(&example.wanted), &[BEFORE; 30]);
+        let page = page_a(example.elements);
+        checks.equal(example.what, answer, built(&page, example.selects, 30));
     }
     let swaps = wanted(&[fan_with(SWAP, 3), fan(3), fan(3)]);
     let answer = build_control(&block_a(), &swaps, &[BEFORE; 30]);
@@ -129,7 +96,7 @@ fn fans_a_wished(checks: &mut Checks) {
 
 fn order_of_refusals(checks: &mut Checks) {
     let block = block_a();
-    let broken = with(&block, 41, &[1]);
+    let broken = with(&block, TYPES_AT + 1, &[1]);
     let as_stored = wanted(&fans_a());
     let unreachable = with(&as_stored, 8, &[0x10]);
     let both = with(&unreachable, 0, &[0x80]);
@@ -385,27 +352,35 @@ impl World {
 
     /// Over every page: the settings that are reached, and how best.
     fn best_pages(&self, block: &[u8]) -> BTreeMap<Vec<u8>, (usize, Vec<u8>)> {
-        let mut choices = Vec::new();
-        for few in self.types {
-            choices.extend(vec![control_elements(few); 1 + few.count]);
-        }
         let mut best = BTreeMap::new();
-        for elements in every_choice(&choices) {
-            for byte1 in self.bytes1 {
-                let header = [0x02, *byte1, 0, 4 + elements.len() as u8, 0, 0, 0, 7];
-                let page = [&header[..], &elements].concat();
-                let answer = apply_control(block, &page);
-                if answer.number == 0 {
-                    let reached = settings_of(&answer.bytes[1..]);
-                    let this = (selects_on(&page), page);
-                    let least = best.entry(reached).or_insert_with(|| this.clone());
-                    if this < *least {
-                        *least = this;
-                    }
+        for page in self.every_page() {
+            let answer = apply_control(block, &page);
+            if answer.number == 0 {
+                let reached = settings_of(&answer.bytes[1..]);
+                let this = (selects_on(&page), page);
+                let least = best.entry(reached).or_insert_with(|| this.clone());
+                if this < *least {
+                    *least = this;
                 }
             }
         }
         best
+    }
+
+    fn every_page(&self) -> impl Iterator<Item = Vec<u8>> {
+        let mut choices = Vec::new();
+        for few in self.types {
+            choices.extend(vec![control_elements(few); 1 + few.count]);
+        }
+        let bytes1 = self.bytes1;
+        every_choice(&choices)
+            .into_iter()
+            .flat_map(move |elements| {
+                bytes1.iter().map(move |byte1| {
+                    let header = [0x02, *byte1, 0, 4 + elements.len() as u8, 0, 0, 0, 7];
+                    [&header[..], &elements].concat()
+                })
+            })
     }
 }
 
@@ -441,7 +416,7 @@ fn laws(checks: &mut Checks) {
         let page = &answer.bytes[9..];
         checks.equal("as any page", apply_control(&before, page), after);
         let (this, other) = (selects_on(page), selects_on(&any_page));
-        checks.equal("SELECTs told", usize::from(answer.bytes[8]), this);
+        checks.equal("SELECTs told", answer.selects(), this);
         let not_after = (this, page) <= (other, &any_page[..]);
         checks.equal("not better than the one built", not_after, true);
     }

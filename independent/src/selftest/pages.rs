@@ -1,36 +1,43 @@
 //! The paper's numbers for whole pages.
 
-use super::{
+use super::checks::Checks;
+use super::examples::{
     block_a, current, fan, fan_at, fan_like, fans_a, group, high_critical, high_warning,
-    low_critical, plain, shelf_a, shelf_a_of, temperature, voltage, with, Checks,
+    largest_shelf, low_critical, plain, shelf_a, shelf_a_of, temperature, voltage, with, BEFORE,
+    SWAP,
+};
+use crate::limits::{
+    configuration_page_bytes, CONFIGURATION_BYTES, FASTEST, HIGHEST_CODE, HIGHEST_SPEED,
+    LAST_LETTER, LONGEST_PAGE, STATUS_BYTES, STATUS_ENTRY_BYTES, THRESHOLDS_BYTES, TYPES_AT,
 };
 use crate::pages::calls::{
     read_configuration, read_status, read_thresholds, rewrite_configuration, rewrite_status,
     rewrite_thresholds, write_configuration, write_status, write_thresholds, Answer,
-    CONFIGURATION_BYTES, STATUS_BYTES, THRESHOLDS_BYTES,
 };
 use crate::record::{Element, Kind, Settings, Thresholds};
-
-/// Memory before a call.
-const BEFORE: u8 = 0xA5;
 
 const STATUS_A: [u8; 24] = [
     0x02, 0x00, 0x00, 0x14, 0x00, 0x00, 0x00, 0x07, 0x01, 0x00, 0x00, 0x00, 0x01, 0x00, 0x78, 0x23,
     0x01, 0x00, 0x78, 0x23, 0x01, 0x00, 0x78, 0x23,
 ];
 
+/// Of a status page with two elements, the overall one and another.
+const HEADER_OF_TWO: [u8; 8] = [0x02, 0x00, 0x00, 0x0C, 0x00, 0x00, 0x00, 0x07];
+
 const THRESHOLDS_A: [u8; 24] = [
     0x05, 0x00, 0x00, 0x14, 0x00, 0x00, 0x00, 0x07, 0, 0, 0, 0, 0, 0, 0, 0, 0, 0, 0, 0, 0, 0, 0, 0,
 ];
 
-pub(super) fn check(checks: &mut Checks) {
+pub fn check(checks: &mut Checks) {
     pages_of_a(checks);
     output_lengths(checks);
     configurations_read(checks);
     status_headers(checks);
     status_fields(checks);
     statuses_handed_back(checks);
+    fields_handed_back(checks);
     statuses_rewritten(checks);
+    fields_rewritten(checks);
     worst_codes(checks);
     thresholds_read(checks);
     thresholds_rewritten(checks);
@@ -130,19 +137,27 @@ fn configurations_read(checks: &mut Checks) {
         read_configuration(&page, &[BEFORE; CONFIGURATION_BYTES]),
         accepted,
     );
+    for (what, number, page) in flawed_configurations(&page) {
+        let answer = read_configuration(&page, &[BEFORE; CONFIGURATION_BYTES]);
+        checks.equal(what, answer, not_read(number, CONFIGURATION_BYTES));
+    }
+}
+
+/// Pages of A, spoiled, with the number of the refusal.
+fn flawed_configurations(page: &[u8]) -> [(&'static str, u8, Vec<u8>); 22] {
     let no_types = with(&page[..48], 2, &[0x00, 0x2C, 0, 0, 0, 7, 0x11, 0x00, 0x00]);
-    let refused: [(&str, u8, Vec<u8>); 22] = [
+    [
         ("empty page", 2, Vec::new()),
         ("page of 3 bytes", 2, page[..3].to_vec()),
         ("3 bytes of another page", 2, vec![0x02, 0x00, 0x00]),
-        ("other page code", 3, with(&page, 0, &[0x02])),
+        ("other page code", 3, with(page, 0, &[0x02])),
         (
             "other page code and length",
             3,
-            with(&page, 0, &[0x02, 0, 0, 0]),
+            with(page, 0, &[0x02, 0, 0, 0]),
         ),
         ("54 bytes", 4, page[..54].to_vec()),
-        ("56 bytes", 4, [&page[..], b" "].concat()),
+        ("56 bytes", 4, [page, b" "].concat()),
         ("4 bytes, said so", 4, vec![0x01, 0x00, 0x00, 0x00]),
         ("47 bytes, said so", 4, with(&page[..47], 2, &[0x00, 0x2B])),
         (
@@ -150,23 +165,29 @@ fn configurations_read(checks: &mut Checks) {
             4,
             with(&page[..51], 2, &[0x00, 0x2F]),
         ),
-        ("texts beyond the page", 4, with(&page, 51, &[0x04])),
-        ("255 types", 4, with(&page, 10, &[0xFF])),
-        ("text shorter than the page", 4, with(&page, 51, &[0x02])),
-        ("length and byte 1", 4, with(&page, 1, &[0x01, 0x00, 0x34])),
-        ("byte 1", 6, with(&page, 1, &[0x01])),
-        ("two processes", 6, with(&page, 8, &[0x12])),
-        ("subenclosure 1", 6, with(&page, 9, &[0x01])),
+        ("texts beyond the page", 4, with(page, 51, &[0x04])),
+        ("255 types", 4, with(page, 10, &[0xFF])),
+        ("text shorter than the page", 4, with(page, 51, &[0x02])),
+        ("length and byte 1", 4, with(page, 1, &[0x01, 0x00, 0x34])),
+        ("byte 1", 6, with(page, 1, &[0x01])),
+        ("two processes", 6, with(page, 8, &[0x12])),
+        ("subenclosure 1", 6, with(page, 9, &[0x01])),
         ("no types", 6, no_types),
-        ("descriptor length", 6, with(&page, 11, &[0x25])),
-        ("type not served", 6, with(&page, 48, &[0x17])),
-        ("65 elements", 6, with(&page, 49, &[65])),
-        ("unprintable text", 6, with(&page, 54, &[0x7F])),
-    ];
-    for (what, number, page) in refused {
-        let answer = read_configuration(&page, &[BEFORE; CONFIGURATION_BYTES]);
-        checks.equal(what, answer, not_read(number, CONFIGURATION_BYTES));
-    }
+        ("descriptor length", 6, with(page, 11, &[0x25])),
+        ("type not served", 6, with(page, 48, &[0x17])),
+        ("an element too many", 6, an_element_too_many()),
+        ("unprintable text", 6, with(page, 54, &[LAST_LETTER + 1])),
+    ]
+}
+
+/// The page of the largest shelf, whose last type then has one element more.
+fn an_element_too_many() -> Vec<u8> {
+    let largest = largest_shelf();
+    let answer = write_configuration(&largest.block(), &[BEFORE; LONGEST_PAGE]);
+    let mut page = answer.bytes[5..][..answer.written()].to_vec();
+    let last_header = configuration_page_bytes(largest.groups.len() - 1, 0);
+    page[last_header + 1] += 1;
+    page
 }
 
 fn status_headers(checks: &mut Checks) {
@@ -197,8 +218,12 @@ fn status_headers(checks: &mut Checks) {
         let answer = read_status(&configuration, &page, &[BEFORE; STATUS_BYTES]);
         checks.equal(what, answer, not_read(number, STATUS_BYTES));
     }
-    let broken = with(&configuration, 41, &[1]);
-    for configuration in [&broken[..], &configuration[..331], &block_a()] {
+    let broken = with(&configuration, TYPES_AT + 1, &[1]);
+    for configuration in [
+        &broken[..],
+        &configuration[..CONFIGURATION_BYTES - 1],
+        &block_a(),
+    ] {
         let answer = read_status(configuration, &[], &[BEFORE; STATUS_BYTES]);
         checks.equal("broken configuration", answer, not_read(1, STATUS_BYTES));
     }
@@ -217,8 +242,8 @@ fn status_fields(checks: &mut Checks) {
         let shelf = shelf_a_of(kind, vec![plain(kind)]);
         let configuration = shelf.configuration().block();
         let page = |element: u32, overall: u32| {
-            let header = [0x02, 0x00, 0x00, 0x0C, 0x00, 0x00, 0x00, 0x07];
-            [&header[..], &overall.to_be_bytes(), &element.to_be_bytes()].concat()
+            let elements = [overall.to_be_bytes(), element.to_be_bytes()].concat();
+            [&HEADER_OF_TWO[..], &elements].concat()
         };
         let number = |page: &[u8]| read_status(&configuration, page, &[0; STATUS_BYTES]).number;
         for place in 0..32 {
@@ -228,9 +253,10 @@ fn status_fields(checks: &mut Checks) {
             checks.equal(&what, number(&page(bit, 0)), allowed(individual));
             checks.equal(&what, number(&page(0, bit)), allowed(0x0F00_0000));
         }
-        checks.equal("code 9", number(&page(0x0900_0000, 0)), 6);
-        checks.equal("overall code 9", number(&page(0, 0x0900_0000)), 6);
-        checks.equal("code 8", number(&page(0x0800_0000, 0x0800_0000)), 0);
+        let [highest, higher] = [HIGHEST_CODE, HIGHEST_CODE + 1].map(|code| u32::from(code) << 24);
+        checks.equal("code too high", number(&page(higher, 0)), 6);
+        checks.equal("overall code too high", number(&page(0, higher)), 6);
+        checks.equal("highest code", number(&page(highest, highest)), 0);
         for byte1 in 0..=0xFF {
             let expected = if [0, 2, 4, 6].contains(&byte1) { 0 } else { 6 };
             let page = with(&page(0, 0), 1, &[byte1]);
@@ -239,8 +265,8 @@ fn status_fields(checks: &mut Checks) {
     }
 }
 
-const OVERALL_OK: [u8; 16] = [1, 0, 0, 0, 0, 0, 0, 0, 0, 0, 0, 0, 0, 0, 0, 0];
-const FAN_OF_A: [u8; 16] = [1, 0, 0, 0, 0, 0, 1, 0, 3, 0, 0, 120, 0, 0, 0, 0];
+const OVERALL_OK: [u8; STATUS_ENTRY_BYTES] = [1, 0, 0, 0, 0, 0, 0, 0, 0, 0, 0, 0, 0, 0, 0, 0];
+const FAN_OF_A: [u8; STATUS_ENTRY_BYTES] = [1, 0, 0, 0, 0, 0, 120, 0, 1, 0, 3, 0, 0, 0, 0, 0];
 
 fn record_a() -> Vec<u8> {
     let mut record = vec![0, 0, 0, 4];
@@ -250,6 +276,37 @@ fn record_a() -> Vec<u8> {
     }
     record.resize(STATUS_BYTES, BEFORE);
     record
+}
+
+/// Elements of each type, with all flags that they can show at once, and their entries.
+fn entries_of_elements() -> [(Element, [u8; STATUS_ENTRY_BYTES]); 6] {
+    let all = Settings {
+        prdfail: true,
+        disabled: true,
+        swap: true,
+        ident: true,
+        fail: true,
+    };
+    let mut stopped = fan_like(all, 7, 2047);
+    if let Element::Cooling { settings, .. } = &mut stopped {
+        settings.on = false;
+    }
+    let slow = fan_like(SWAP, 1, 258);
+    let cold = temperature(9, Thresholds::from_bytes([8, 8, 10, 10]));
+    let negative = voltage(-1, 1200, Thresholds::from_bytes([0, 0, 20, 20]));
+    let high = voltage(1321, 1200, Thresholds::from_bytes([20, 0, 0, 0]));
+    let above = current(1321, 1200, Thresholds::from_bytes([20, 20, 0, 0]));
+    [
+        (stopped, [1, 1, 1, 1, 1, 7, 255, 1, 0, 1, 7, 0, 0, 0, 0, 0]),
+        (slow, [1, 0, 0, 1, 0, 1, 2, 0, 1, 0, 1, 0, 0, 0, 0, 0]),
+        (cold, [2, 0, 0, 0, 0, 0, 9, 1, 1, 1, 1, 0, 0, 0, 0, 0]),
+        (
+            negative,
+            [2, 0, 0, 0, 0, 0, 0, 1, 0, 1, 255, 255, 0, 0, 0, 0],
+        ),
+        (high, [2, 0, 0, 0, 0, 0, 0, 0, 1, 0, 5, 41, 0, 0, 0, 0]),
+        (above, [2, 0, 0, 0, 0, 0, 1, 1, 5, 41, 0, 0, 0, 0, 0, 0]),
+    ]
 }
 
 fn statuses_handed_back(checks: &mut Checks) {
@@ -262,36 +319,7 @@ fn statuses_handed_back(checks: &mut Checks) {
         read_status(&configuration_block_a(), &STATUS_A, &[BEFORE; STATUS_BYTES]),
         expected,
     );
-    let all = Settings {
-        prdfail: true,
-        disabled: true,
-        swap: true,
-        ident: true,
-        fail: true,
-    };
-    let mut stopped = fan_like(all, 7, 2047);
-    if let Element::Cooling { settings, .. } = &mut stopped {
-        settings.on = false;
-    }
-    let cold = temperature(9, Thresholds::from_bytes([8, 8, 10, 10]));
-    let negative = voltage(-1, 1200, Thresholds::from_bytes([0, 0, 20, 20]));
-    let above = current(1321, 1200, Thresholds::from_bytes([20, 20, 0, 0]));
-    let entries: [(Element, [u8; 16]); 4] = [
-        (
-            stopped,
-            [1, 1, 1, 1, 1, 1, 0, 1, 7, 0, 0x07, 0xFF, 0, 0, 0, 0],
-        ),
-        (cold, [2, 0, 0, 0, 0, 0, 0, 0, 0, 0, 0x00, 0x09, 1, 1, 1, 1]),
-        (
-            negative,
-            [2, 0, 0, 0, 0, 0, 0, 0, 0, 0, 0xFF, 0xFF, 0, 0, 1, 1],
-        ),
-        (
-            above,
-            [2, 0, 0, 0, 0, 0, 0, 0, 0, 0, 0x05, 0x29, 1, 1, 0, 0],
-        ),
-    ];
-    for (element, entry) in entries {
+    for (element, entry) in entries_of_elements() {
         let shelf = shelf_a_of(element.kind(), vec![element]);
         let page = write_status(&shelf.block(), &[0; 16]).bytes[5..].to_vec();
         let configuration = shelf.configuration().block();
@@ -313,43 +341,94 @@ fn statuses_rewritten(checks: &mut Checks) {
         rewrite_status(&configuration, &record, &[BEFORE; 30]),
         written(&STATUS_A, 30),
     );
-    let spare = with(&record, 4 + 9, &[0xFF]);
-    checks.equal("spare byte", number(&spare, 24), 0);
+    let behind = with(&record, 4 + 4 * STATUS_ENTRY_BYTES, &[0xFF]);
+    checks.equal("behind the last entry", number(&behind, 24), 0);
+    let unshown = with(&record, 4 + 4 * STATUS_ENTRY_BYTES - 1, &[0xFF]);
+    checks.equal("last byte of the last entry", number(&unshown, 24), 6);
+    checks.equal("the same, short", number(&unshown, 0), 6);
     let five = with(&record, 3, &[5]);
     checks.equal("five entries", number(&five, 24), 9);
     checks.equal("five entries, CRIT 2", number(&with(&five, 1, &[2]), 0), 9);
     checks.equal("CRIT 2, short", number(&with(&record, 1, &[2]), 0), 6);
     checks.equal("short", number(&record, 23), 11);
-    let overall_fields = (1..16).filter(|field| *field != 9);
-    for field in overall_fields {
-        let set = with(&record, 4 + field, &[1]);
-        checks.equal("overall entry with more", number(&set, 24), 6);
-    }
-    for (field, most) in [
-        (0, 8),
-        (1, 1),
-        (2, 1),
-        (3, 1),
-        (4, 1),
-        (5, 1),
-        (6, 1),
-        (7, 1),
-        (8, 7),
-        (10, 7),
-    ] {
-        let (largest, larger) = (
-            with(&record, 20 + field, &[most]),
-            with(&record, 20 + field, &[most + 1]),
-        );
-        checks.equal("largest value", number(&largest, 24), 0);
-        checks.equal("larger value", number(&larger, 24), 6);
-    }
-    for field in 12..16 {
-        let set = with(&record, 20 + field, &[1]);
-        checks.equal("limit of a fan", number(&set, 24), 6);
-    }
     let broken = rewrite_status(&configuration[1..], &five, &[BEFORE; 3]);
     checks.equal("broken configuration", broken, not_written(1, 3));
+}
+
+/// The lowest bit of each field of an element, byte 0 highest, in the order of its entry.
+const LOWEST_BITS: [(Kind, &[u32]); 4] = [
+    (Kind::Cooling, &[24, 30, 29, 28, 23, 16, 8, 6, 5, 4, 0]),
+    (Kind::Temperature, &[24, 30, 29, 28, 23, 22, 8, 3, 2, 1, 0]),
+    (
+        Kind::Voltage,
+        &[24, 30, 29, 28, 23, 22, 19, 18, 17, 16, 8, 0],
+    ),
+    (Kind::Current, &[24, 30, 29, 28, 23, 22, 19, 17, 8, 0]),
+];
+
+/// Each field is 1 while the others are 0.
+fn fields_handed_back(checks: &mut Checks) {
+    for (kind, bits) in LOWEST_BITS {
+        let shelf = shelf_a_of(kind, vec![plain(kind)]);
+        let configuration = shelf.configuration().block();
+        for (at, bit) in bits.iter().enumerate() {
+            let element = (1_u32 << bit).to_be_bytes();
+            let page = [&HEADER_OF_TWO[..], &[0; 4], &element].concat();
+            let answer = read_status(&configuration, &page, &[BEFORE; STATUS_BYTES]);
+            let entry = with(&[0; STATUS_ENTRY_BYTES], at, &[1]);
+            let what = format!("{kind:?}, field {at} is 1");
+            checks.equal(&what, &answer.bytes[21..37], &entry[..]);
+            let again = rewrite_status(&configuration, &answer.bytes[1..], &[BEFORE; 16]);
+            checks.equal(&what, again, written(&page, 16));
+        }
+    }
+}
+
+/// The largest value of each byte of an entry, 0 where the type shows nothing.
+fn largest_values() -> [(Kind, [u8; STATUS_ENTRY_BYTES]); 4] {
+    let (code, speed_code) = (HIGHEST_CODE, HIGHEST_SPEED);
+    let [upper, lower] = FASTEST.to_be_bytes();
+    [
+        (
+            Kind::Cooling,
+            [
+                code, 1, 1, 1, 1, upper, lower, 1, 1, 1, speed_code, 0, 0, 0, 0, 0,
+            ],
+        ),
+        (
+            Kind::Temperature,
+            [code, 1, 1, 1, 1, 1, 255, 1, 1, 1, 1, 0, 0, 0, 0, 0],
+        ),
+        (
+            Kind::Voltage,
+            [code, 1, 1, 1, 1, 1, 1, 1, 1, 1, 255, 255, 0, 0, 0, 0],
+        ),
+        (
+            Kind::Current,
+            [code, 1, 1, 1, 1, 1, 1, 1, 255, 255, 0, 0, 0, 0, 0, 0],
+        ),
+    ]
+}
+
+/// All bytes of both entries at their largest, and then one of them with each value.
+fn fields_rewritten(checks: &mut Checks) {
+    let overall = with(&[0; STATUS_ENTRY_BYTES], 0, &[HIGHEST_CODE]);
+    for (kind, individual) in largest_values() {
+        let shelf = shelf_a_of(kind, vec![plain(kind)]);
+        let configuration = shelf.configuration().block();
+        let entries = [&overall[..], &individual].concat();
+        let mut record = [&[1, 1, 0, 2][..], &entries].concat();
+        record.resize(STATUS_BYTES, BEFORE);
+        for (at, most) in entries.iter().enumerate() {
+            for value in 0..=0xFF {
+                let changed = with(&record, 4 + at, &[value]);
+                let answer = rewrite_status(&configuration, &changed, &[BEFORE; 16]);
+                let what = format!("{kind:?}, byte {at} of the entries is {value}");
+                let expected = if value <= *most { 0 } else { 6 };
+                checks.equal(&what, answer.number, expected);
+            }
+        }
+    }
 }
 
 fn worst_codes(checks: &mut Checks) {

@@ -1,9 +1,12 @@
 //! What the two calls that act have in common: pages that they accept, spoiled in every way.
 
-use super::changes::{change, say_own_length, strange_page};
-use super::shapes::{one_of_each, shelf, some_of_each};
-use super::{Case, Offer};
-use crate::cases::malformed_block;
+use super::case::{Case, Offer, ROOM};
+use super::changes::{
+    change, flip_bit, of_every_length, say_own_length, strange_page, with_every_value,
+};
+use super::shapes::{between_two, one_of_each, shelf, some_of_each};
+use crate::cases::{malformed_block, LONG_BLOCK};
+use crate::limits::{element_page_bytes, SLOTS_AT, TYPES_AT};
 use crate::pages::calls::Call;
 use crate::pages::ElementPage;
 use crate::record::{Kind, Shelf};
@@ -37,17 +40,19 @@ const FLAWS: [Flaw; 5] = [
     other_generation,
 ];
 
-/// Rarely or mostly, all or none; the number is out of 64.
+/// Rarely or mostly, all or none.
 #[derive(Clone, Copy)]
 pub struct Chance(usize);
 
+const CERTAIN: usize = 64;
+
 impl Chance {
     pub fn any(rng: &mut Rng) -> Chance {
-        Chance(rng.pick(&[0, 1, 8, 32, 63, 64]))
+        Chance(rng.pick(&[0, 1, 8, CERTAIN / 2, CERTAIN - 1, CERTAIN]))
     }
 
     pub fn comes(self, rng: &mut Rng) -> bool {
-        rng.range(0, 63) < self.0
+        rng.range(0, CERTAIN - 1) < self.0
     }
 }
 
@@ -64,13 +69,23 @@ pub fn slots(shelf: &Shelf) -> Vec<Slot> {
     for group in &shelf.groups {
         for place in 0..=group.elements.len() {
             slots.push(Slot {
-                at: 8 + 4 * slots.len(),
+                at: element_page_bytes(slots.len()),
                 kind: group.kind,
                 overall: place == 0,
             });
         }
     }
     slots
+}
+
+/// So many elements of a type, and where one of its elements stands on a page, the overall one first.
+pub const AIMS: [(usize, usize); 5] = [(0, 0), (3, 0), (3, 1), (3, 2), (3, 3)];
+
+/// A shelf with the type between two others, and the slot that is aimed at.
+pub fn aimed(rng: &mut Rng, kind: Kind, (count, place): (usize, usize)) -> (Shelf, Slot) {
+    let shelf = between_two(rng, kind, count);
+    let slot = slots(&shelf)[1 + shelf.groups[0].elements.len() + place];
+    (shelf, slot)
 }
 
 pub fn put(page: &mut [u8], slot: Slot, element: [u8; 4]) {
@@ -137,11 +152,8 @@ impl Actor {
         match rng.range(0, 4) {
             0 => block = shelf(rng).block(),
             1 => block = malformed_block(rng),
-            2 => block[rng.range(0, 39)] ^= 1 << rng.range(0, 7),
-            _ => {
-                let at = rng.range(40, block.len() - 1);
-                block[at] ^= 1 << rng.range(0, 7);
-            }
+            2 => block[rng.range(0, TYPES_AT - 1)] ^= 1 << rng.range(0, 7),
+            _ => flip_bit(&mut block, TYPES_AT, rng),
         }
         self.case_of(block, page)
     }
@@ -155,7 +167,7 @@ impl Actor {
     }
 
     fn random_bytes(&self, rng: &mut Rng) -> Case {
-        let (shelf_length, page_length) = (rng.range(0, 1_400), rng.range(0, 400));
+        let (shelf_length, page_length) = (rng.range(0, LONG_BLOCK), rng.range(0, ROOM));
         let (block, page) = (rng.bytes(shelf_length), rng.bytes(page_length));
         self.case_of(block, page)
     }
@@ -193,9 +205,7 @@ impl Actor {
         for at in 0..length {
             let shelf = one_of_each(rng);
             let page = (self.accepted)(rng, &shelf);
-            for value in 0..=255 {
-                let mut changed = page.clone();
-                changed[at] = value;
+            for changed in with_every_value(&page, at) {
                 offer(self.case(&shelf, changed));
             }
         }
@@ -204,15 +214,8 @@ impl Actor {
     fn every_page_length(&self, rng: &mut Rng, offer: Offer) {
         let shelf = one_of_each(rng);
         let page = (self.accepted)(rng, &shelf);
-        for length in 0..page.len() + 16 {
-            for adapted in [false, true] {
-                let mut changed = page.clone();
-                changed.resize(length, 0);
-                if adapted {
-                    say_own_length(&mut changed);
-                }
-                offer(self.case(&shelf, changed));
-            }
+        for changed in of_every_length(&page) {
+            offer(self.case(&shelf, changed));
         }
     }
 
@@ -239,7 +242,8 @@ pub fn break_block(block: &mut Vec<u8>, rng: &mut Rng) {
         1 => block.truncate(block.len() - 1),
         _ => {
             let last = block.len() - 1;
-            block[rng.pick(&[41, 42, 43, 47, last])] = rng.nonzero_byte();
+            let zeros = [TYPES_AT + 1, TYPES_AT + 2, TYPES_AT + 3, SLOTS_AT + 3, last];
+            block[rng.pick(&zeros)] = rng.nonzero_byte();
         }
     }
 }

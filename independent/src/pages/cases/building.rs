@@ -1,17 +1,17 @@
 //! Wishes for the builder of control pages.
 
 use super::acting::{break_block, slots};
+use super::case::{output_length, page_written, Case, Offer};
+use super::changes::flip_bit;
 use super::control::{every_setting, every_single_bit, named, with_settings};
 use super::shapes::{between_two, one_of_each, shelf, some_of_each};
 use super::wishes::{all_changed, any_setting, as_stored, Few, Pair, Pattern, PATTERNS, SWAP};
-use super::{output_length, page_written, Case, Offer};
-use crate::cases::{group, malformed_block, shelf_of, ELEMENTS_AT, ELEMENT_BYTES};
+use crate::cases::{group, malformed_block, one_type, shelf_of};
+use crate::limits::{block_bytes, element_page_bytes, most_elements_of, MOST_ELEMENTS, TYPES_AT};
 use crate::pages::builder::selects;
 use crate::pages::calls::BUILD_CONTROL;
 use crate::record::{Kind, Shelf};
 use crate::rng::Rng;
-
-const FULL: usize = 64;
 
 const SMALL: [Few; 14] = [
     Few::new(Kind::Cooling, 3, 0x0000_0021, 0x0000_0006),
@@ -99,7 +99,7 @@ impl Wish {
         Wish {
             block: with_settings(shelf, &stored),
             wanted: wanted.collect::<Vec<_>>().concat(),
-            page: 8 + 4 * slots(shelf).len(),
+            page: element_page_bytes(slots(shelf).len()),
         }
     }
 
@@ -145,11 +145,6 @@ fn any_shelf(rng: &mut Rng) -> Shelf {
     }
 }
 
-fn one_type(rng: &mut Rng, kind: Kind, count: usize) -> Shelf {
-    let groups = vec![group(rng, kind, count)];
-    shelf_of(rng, groups)
-}
-
 /// Every wish over all that can be stored.
 fn every_wish(rng: &mut Rng, few: &Few, offer: Offer) {
     let shelf = one_type(rng, few.kind, few.count);
@@ -180,7 +175,7 @@ fn lists_of(settings: &[u32], count: usize) -> Vec<Vec<u32>> {
 /// Each setting of a fan is wanted over each that it can have, but for SWAP over none.
 fn every_wish_of_a_fan(rng: &mut Rng, offer: Offer) {
     let settings = every_setting(Kind::Cooling);
-    for stored in settings.chunks(FULL) {
+    for stored in settings.chunks(most_elements_of(1)) {
         let shelf = one_type(rng, Kind::Cooling, stored.len());
         for turn in 0..settings.len() {
             let wanted = settings.iter().cycle().skip(turn);
@@ -258,7 +253,7 @@ fn other_list(rng: &mut Rng) -> Case {
     let shelf = any_shelf(rng);
     let mut wish = Wish::of(rng, &shelf, &PATTERNS);
     let length = wish.wanted.len();
-    let any = rng.range(0, 300);
+    let any = rng.range(0, 4 * MOST_ELEMENTS + 44);
     let lengths = [
         0,
         1,
@@ -296,11 +291,8 @@ fn other_shelf(rng: &mut Rng) -> Case {
         0 => *block = shelf(rng).block(),
         1 => *block = malformed_block(rng),
         2 => break_block(block, rng),
-        3 => block[rng.range(0, 39)] ^= 1 << rng.range(0, 7),
-        _ => {
-            let at = rng.range(40, block.len() - 1);
-            block[at] ^= 1 << rng.range(0, 7);
-        }
+        3 => block[rng.range(0, TYPES_AT - 1)] ^= 1 << rng.range(0, 7),
+        _ => flip_bit(block, TYPES_AT, rng),
     }
     wish.case(rng)
 }
@@ -338,7 +330,7 @@ fn with_flaws(rng: &mut Rng, numbers: &[u8]) -> Case {
 fn want_swap(wish: &mut Wish, rng: &mut Rng) {
     let element = rng.range(0, wish.elements() - 1);
     let [swap, ..] = SWAP.to_be_bytes();
-    wish.block[ELEMENTS_AT + ELEMENT_BYTES * element] &= !swap;
+    wish.block[block_bytes(element)] &= !swap;
     wish.wanted[4 * element] |= swap;
 }
 
@@ -356,7 +348,7 @@ fn not_a_list(wish: &mut Wish, rng: &mut Rng) {
 fn other_record(wish: &mut Wish, rng: &mut Rng) {
     let element = rng.range(0, wish.elements() - 1);
     let bits = &mut wish.wanted[4 * element..4 * element + 4];
-    let fan = wish.block[ELEMENTS_AT + ELEMENT_BYTES * element + 3] & 0x07 != 0;
+    let fan = wish.block[block_bytes(element) + 3] & 0x07 != 0;
     match (rng.range(0, 3), fan) {
         (0, _) => bits[0] |= 0x80,
         (1, _) => bits[rng.range(1, 2)] |= 1 << rng.range(0, 5),
@@ -388,9 +380,9 @@ fn every_list_length(rng: &mut Rng, offer: Offer) {
 }
 
 fn every_output_length(rng: &mut Rng, offer: Offer) {
-    let full = one_type(rng, Kind::Cooling, FULL);
+    let full = one_type(rng, Kind::Cooling, most_elements_of(1));
     for shelf in [one_of_each(rng), one_type(rng, Kind::Current, 0), full] {
-        let page = 8 + 4 * slots(&shelf).len();
+        let page = element_page_bytes(slots(&shelf).len());
         for length in 0..page + 8 {
             let wish = Wish::of(rng, &shelf, &PATTERNS);
             offer(wish.case_with(rng, length));

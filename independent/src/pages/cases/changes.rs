@@ -1,6 +1,7 @@
 //! What can be wrong with a page, whichever it is.
 
-use super::LONGEST_PAGE;
+use super::case::ROOM;
+use crate::limits::LONGEST_SAID;
 use crate::rng::Rng;
 
 type Change = fn(&mut Vec<u8>, &mut Rng);
@@ -32,10 +33,10 @@ pub fn strange_page(rng: &mut Rng, code: u8, page: &[u8]) -> Vec<u8> {
     match rng.range(0, 9) {
         0 => Vec::new(),
         1..=3 => page[..rng.range(1, 3)].to_vec(),
-        4 => random_page(rng, code, LONGEST_PAGE),
+        4 => random_page(rng, code, LONGEST_SAID),
         5 => wrapped(rng, page),
         _ => {
-            let length = rng.range(4, 400);
+            let length = rng.range(4, ROOM);
             random_page(rng, code, length)
         }
     }
@@ -62,6 +63,45 @@ pub fn say_own_length(page: &mut [u8]) {
     }
 }
 
+/// Cut, or filled up with zeros, to each length up to a few bytes more; as it says itself, and saying so.
+pub fn of_every_length(page: &[u8]) -> Vec<Vec<u8>> {
+    let mut pages = Vec::new();
+    for length in 0..page.len() + 16 {
+        let mut resized = page.to_vec();
+        resized.resize(length, 0);
+        pages.push(resized.clone());
+        say_own_length(&mut resized);
+        pages.push(resized);
+    }
+    pages
+}
+
+/// With each value of the byte at this place.
+pub fn with_every_value(bytes: &[u8], at: usize) -> impl Iterator<Item = Vec<u8>> + '_ {
+    (0..=255).map(move |value| with(bytes, at, &[value]))
+}
+
+/// With any four of a few telling bytes from this place on.
+pub fn with_every_quadruple(bytes: &[u8], at: usize) -> impl Iterator<Item = Vec<u8>> + '_ {
+    const TELLING: [u8; 6] = [0, 1, 127, 128, 254, 255];
+    (0..TELLING.len().pow(4)).map(move |number| {
+        let digit = |place: u32| TELLING[number / TELLING.len().pow(place) % TELLING.len()];
+        with(bytes, at, &[digit(3), digit(2), digit(1), digit(0)])
+    })
+}
+
+pub fn with(bytes: &[u8], at: usize, put: &[u8]) -> Vec<u8> {
+    let mut changed = bytes.to_vec();
+    changed[at..at + put.len()].copy_from_slice(put);
+    changed
+}
+
+/// Flips any bit from this byte on.
+pub fn flip_bit(bytes: &mut [u8], from: usize, rng: &mut Rng) {
+    let at = rng.range(from, bytes.len() - 1);
+    bytes[at] ^= 1 << rng.range(0, 7);
+}
+
 pub fn set(bytes: &mut [u8], at: usize, value: u8) {
     if let Some(byte) = bytes.get_mut(at) {
         *byte = value;
@@ -70,8 +110,7 @@ pub fn set(bytes: &mut [u8], at: usize, value: u8) {
 
 fn flipped_bit(page: &mut Vec<u8>, rng: &mut Rng) {
     if !page.is_empty() {
-        let at = rng.range(0, page.len() - 1);
-        page[at] ^= 1 << rng.range(0, 7);
+        flip_bit(page, 0, rng);
     }
 }
 
@@ -84,7 +123,7 @@ fn other_byte(page: &mut Vec<u8>, rng: &mut Rng) {
 
 fn several_bytes(page: &mut Vec<u8>, rng: &mut Rng) {
     for _ in 0..rng.range(2, 5) {
-        let at = rng.range(4, 400);
+        let at = rng.range(4, ROOM);
         let value = rng.byte();
         set(page, at, value);
     }

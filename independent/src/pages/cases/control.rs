@@ -1,16 +1,16 @@
 //! Enclosure Control pages.
 
-use super::acting::{put, slots, Actor, Attempt, Chance, Slot};
-use super::shapes::{between_two, shelf};
-use super::{Case, Offer};
-use crate::cases::{group, shelf_of, ELEMENTS_AT, ELEMENT_BYTES};
+use super::acting::{aimed, put, slots, Actor, Attempt, Chance, Slot, AIMS};
+use super::case::{Case, Offer};
+use super::shapes::shelf;
+use crate::cases::one_type;
+use crate::limits::{block_bytes, most_elements_of, ELEMENTS_AT, ELEMENT_BYTES};
 use crate::pages::calls::APPLY_CONTROL;
 use crate::record::{Kind, Shelf};
 use crate::rng::Rng;
 use std::array::from_fn;
 
 const SELECT: u32 = 0x8000_0000;
-const FULL: usize = 64;
 
 static CONTROL: Actor = Actor {
     call: &APPLY_CONTROL,
@@ -130,26 +130,31 @@ pub fn every_setting(kind: Kind) -> Vec<u32> {
 /// Each request meets each stored setting of its type, once as overall and once as individual element.
 fn every_request_over_every_setting(rng: &mut Rng, kind: Kind, offer: Offer) {
     let requests = every_request(kind);
-    for stored in every_setting(kind).chunks(FULL) {
-        let groups = vec![group(rng, kind, stored.len())];
-        let shelf = shelf_of(rng, groups);
+    for stored in every_setting(kind).chunks(most_elements_of(1)) {
+        let shelf = one_type(rng, kind, stored.len());
         let block = with_settings(&shelf, stored);
         for turn in 0..requests.len() {
-            let mut as_overall = CONTROL.blank(&shelf);
-            let mut as_individual = CONTROL.blank(&shelf);
-            for (place, slot) in slots(&shelf).into_iter().enumerate() {
-                let (one, other) = if slot.overall {
-                    (requests[turn], any_overall(rng, kind))
-                } else {
-                    (unselected(rng), requests[(turn + place) % requests.len()])
-                };
-                put(&mut as_overall, slot, one.to_be_bytes());
-                put(&mut as_individual, slot, other.to_be_bytes());
+            for page in turn_of_requests(rng, &shelf, &requests, turn) {
+                offer(CONTROL.case_of(block.clone(), page));
             }
-            offer(CONTROL.case_of(block.clone(), as_overall));
-            offer(CONTROL.case_of(block.clone(), as_individual));
         }
     }
+}
+
+/// A page with one request as overall element, and one with each individual element another turn further.
+fn turn_of_requests(rng: &mut Rng, shelf: &Shelf, requests: &[u32], turn: usize) -> [Vec<u8>; 2] {
+    let mut as_overall = CONTROL.blank(shelf);
+    let mut as_individual = CONTROL.blank(shelf);
+    for (place, slot) in slots(shelf).into_iter().enumerate() {
+        let (one, other) = if slot.overall {
+            (requests[turn], any_overall(rng, slot.kind))
+        } else {
+            (unselected(rng), requests[(turn + place) % requests.len()])
+        };
+        put(&mut as_overall, slot, one.to_be_bytes());
+        put(&mut as_individual, slot, other.to_be_bytes());
+    }
+    [as_overall, as_individual]
 }
 
 fn any_overall(rng: &mut Rng, kind: Kind) -> u32 {
@@ -163,7 +168,7 @@ fn any_overall(rng: &mut Rng, kind: Kind) -> u32 {
 pub fn with_settings(shelf: &Shelf, stored: &[u32]) -> Vec<u8> {
     let mut block = shelf.block();
     for (place, settings) in stored.iter().enumerate() {
-        let at = ELEMENTS_AT + ELEMENT_BYTES * place;
+        let at = block_bytes(place);
         block[at..at + 4].copy_from_slice(&settings.to_be_bytes());
     }
     block
@@ -171,14 +176,11 @@ pub fn with_settings(shelf: &Shelf, stored: &[u32]) -> Vec<u8> {
 
 /// Each bit in turn is set in each element of a type, with SELECT and without.
 fn every_bit(rng: &mut Rng, kind: Kind, offer: Offer) {
-    for count in [0, 3] {
-        for place in 0..=count {
-            for bit in every_single_bit() {
-                for select in [0, SELECT] {
-                    let shelf = between_two(rng, kind, count);
-                    let slot = slots(&shelf)[1 + shelf.groups[0].elements.len() + place];
-                    offer(one_bit_set(rng, &shelf, slot, select | bit));
-                }
+    for aim in AIMS {
+        for bit in every_single_bit() {
+            for select in [0, SELECT] {
+                let (shelf, slot) = aimed(rng, kind, aim);
+                offer(one_bit_set(rng, &shelf, slot, select | bit));
             }
         }
     }
@@ -202,8 +204,7 @@ fn one_bit_set(rng: &mut Rng, shelf: &Shelf, slot: Slot, set: u32) -> Case {
 /// One type with up to three elements; one control element in four may have any bits.
 fn few_elements(rng: &mut Rng, kind: Kind) -> Case {
     let count = rng.range(1, 3);
-    let groups = vec![group(rng, kind, count)];
-    let shelf = shelf_of(rng, groups);
+    let shelf = one_type(rng, kind, count);
     let mut page = CONTROL.blank(&shelf);
     for slot in slots(&shelf) {
         let any = four_bytes(rng);

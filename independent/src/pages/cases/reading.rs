@@ -1,12 +1,20 @@
 //! Pages for the three readers: those that a writer wrote, changed ones, and strange ones.
 
-use super::changes::{change, say_own_length, set, strange_page};
+use super::case::{page_written, Case, Offer};
+use super::changes::{
+    change, of_every_length, say_own_length, set, strange_page, with_every_quadruple,
+    with_every_value,
+};
 use super::shapes::{one_of_each, shelf};
-use super::{page_written, Case, Offer, LONGEST_PAGE};
 use crate::cases::{malformed_block, text};
+use crate::limits::{
+    configuration_page_bytes, equal_share, CONFIGURATION_BYTES, FIRST_LETTER, HIGHEST_CODE,
+    LAST_LETTER, LONGEST_SAID, MOST_ELEMENTS, MOST_OF_TYPE, MOST_TEXT, MOST_TYPES, STATUS_BYTES,
+    THRESHOLDS_BYTES, TYPES_AT,
+};
 use crate::pages::calls::{
-    Call, CONFIGURATION_BYTES, READ_CONFIGURATION, READ_STATUS, READ_THRESHOLDS, STATUS_BYTES,
-    THRESHOLDS_BYTES, WRITE_CONFIGURATION, WRITE_STATUS, WRITE_THRESHOLDS,
+    Call, READ_CONFIGURATION, READ_STATUS, READ_THRESHOLDS, WRITE_CONFIGURATION, WRITE_STATUS,
+    WRITE_THRESHOLDS,
 };
 use crate::record::{Configuration, Kind, Shelf};
 use crate::rng::Rng;
@@ -97,35 +105,32 @@ impl Reader {
     }
 
     fn every_value_of_every_byte(&self, rng: &mut Rng, offer: Offer) {
-        let shelf = one_of_each(rng);
-        let inputs = (self.accepted)(rng, &shelf);
-        let length = inputs.last().map_or(0, Vec::len);
-        for at in 0..length {
-            for value in 0..=255 {
-                let mut changed = inputs.clone();
-                let page = changed.last_mut().expect("a page");
-                page[at] = value;
-                offer(self.case(rng, changed));
+        let (others, page) = self.accepted_for_one_of_each(rng);
+        for at in 0..page.len() {
+            for changed in with_every_value(&page, at) {
+                offer(self.case(rng, with_page(&others, changed)));
             }
         }
     }
 
     fn every_length(&self, rng: &mut Rng, offer: Offer) {
-        let shelf = one_of_each(rng);
-        let inputs = (self.accepted)(rng, &shelf);
-        let longest = inputs.last().map_or(0, Vec::len) + 16;
-        for length in 0..longest {
-            for adapted in [false, true] {
-                let mut changed = inputs.clone();
-                let page = changed.last_mut().expect("a page");
-                page.resize(length, 0);
-                if adapted {
-                    say_own_length(page);
-                }
-                offer(self.case(rng, changed));
-            }
+        let (others, page) = self.accepted_for_one_of_each(rng);
+        for changed in of_every_length(&page) {
+            offer(self.case(rng, with_page(&others, changed)));
         }
     }
+
+    /// The page, and what the call looks at beside it.
+    fn accepted_for_one_of_each(&self, rng: &mut Rng) -> (Vec<Vec<u8>>, Vec<u8>) {
+        let shelf = one_of_each(rng);
+        let mut inputs = (self.accepted)(rng, &shelf);
+        let page = inputs.pop().expect("a page");
+        (inputs, page)
+    }
+}
+
+fn with_page(others: &[Vec<u8>], page: Vec<u8>) -> Vec<Vec<u8>> {
+    [others, &[page]].concat()
 }
 
 /// A configuration that is broken, or one that the page is not for.
@@ -146,7 +151,7 @@ pub fn other_configuration(rng: &mut Rng, of: &Shelf) -> Vec<u8> {
             rng.bytes(length)
         }
         6 => {
-            let at = rng.range(40, CONFIGURATION_BYTES - 1);
+            let at = rng.range(TYPES_AT, CONFIGURATION_BYTES - 1);
             block[at] = rng.byte();
             block
         }
@@ -173,7 +178,7 @@ fn show_anything(rng: &mut Rng, configuration: &Configuration, page: &mut [u8]) 
         for (byte, named) in element.iter_mut().zip(named_bits(*place)) {
             *byte = rng.byte() & named;
         }
-        element[0] += rng.range(0, 8) as u8;
+        element[0] += rng.range(0, HIGHEST_CODE.into()) as u8;
     }
 }
 
@@ -191,9 +196,9 @@ fn named_bits(place: Place) -> [u8; 4] {
 /// A configuration page put together from headers of any content, mostly of the length they need.
 fn configuration_page_of_parts(rng: &mut Rng) -> Vec<u8> {
     let types = match rng.range(0, 9) {
-        0 => rng.pick(&[0, 9, 254, 255]),
+        0 => rng.pick(&[0, MOST_TYPES + 1, 254, 255]),
         1 => rng.range(0, 255),
-        _ => rng.range(1, 8),
+        _ => rng.range(1, MOST_TYPES),
     };
     let flawed = rng.one_in(2);
     let mut headers = Vec::new();
@@ -207,7 +212,15 @@ fn configuration_page_of_parts(rng: &mut Rng) -> Vec<u8> {
     let mut page = configuration_page_of(rng, &headers);
     if flawed && rng.one_in(3) {
         let at = rng.range(40, page.len() + 40);
-        let value = rng.pick(&[0x00, 0x1F, 0x20, 0x7E, 0x7F, 0x80, 0xFF]);
+        let value = rng.pick(&[
+            0x00,
+            FIRST_LETTER - 1,
+            FIRST_LETTER,
+            LAST_LETTER,
+            LAST_LETTER + 1,
+            0x80,
+            0xFF,
+        ]);
         set(&mut page, at, value);
     }
     if rng.one_in(8) {
@@ -217,23 +230,28 @@ fn configuration_page_of_parts(rng: &mut Rng) -> Vec<u8> {
 }
 
 fn header(rng: &mut Rng, count: u8) -> [u8; 4] {
-    let any_length = rng.range(0, 32) as u8;
-    let length = rng.pick(&[0, 1, 31, 32, any_length]);
-    [rng.pick(&Kind::ALL).code(), count, 0, length]
+    let any_length = rng.range(0, MOST_TEXT);
+    let length = rng.pick(&[0, 1, MOST_TEXT - 1, MOST_TEXT, any_length]);
+    [rng.pick(&Kind::ALL).code(), count, 0, length as u8]
 }
 
 fn spoil_header(rng: &mut Rng, header: &mut [u8; 4]) {
     let any = rng.byte();
-    header[rng.range(0, 3)] = rng.pick(&[0x00, 0x21, 0x41, 0xFF, any]);
+    let (text, elements) = (MOST_TEXT + 1, MOST_OF_TYPE + 1);
+    header[rng.range(0, 3)] = rng.pick(&[0x00, text as u8, elements as u8, 0xFF, any]);
 }
 
-/// How many elements each type has: often 64 in all, or just one more, or far too many.
+/// How many elements each type has: often as many as may be in all, or just one more, or far too many.
 fn counts(rng: &mut Rng, types: usize) -> Vec<u8> {
-    let mut counts = vec![rng.pick(&[0, 1, 8, 9, 32, 64, 255]); types];
+    let full = equal_share(MOST_TYPES);
+    let alike = rng.pick(&[0, 1, full, full + 1, equal_share(2), equal_share(1), 255]);
+    let mut counts = vec![alike as u8; types];
     if rng.one_in(2) && types > 0 {
         counts.fill(0);
-        for _ in 0..rng.pick(&[63, 64, 64, 65, 66]) {
-            counts[rng.range(0, types - 1)] += 1;
+        let most = MOST_ELEMENTS;
+        for _ in 0..rng.pick(&[most - 1, most, most, most + 1, most + 2]) {
+            let count = &mut counts[rng.range(0, types - 1)];
+            *count = count.saturating_add(1);
         }
     }
     counts
@@ -254,7 +272,7 @@ fn configuration_page_of(rng: &mut Rng, headers: &[[u8; 4]]) -> Vec<u8> {
 
 /// As long as a page can be, a byte more or less, and 255 texts of 255 letters.
 fn longest_configuration_pages(rng: &mut Rng, offer: Offer) {
-    let letters = LONGEST_PAGE - 48 - 4 * 255;
+    let letters = LONGEST_SAID - configuration_page_bytes(255, 0);
     for total in [letters - 1, letters, letters + 1, 255 * 255] {
         let headers: Vec<[u8; 4]> = (0..255)
             .map(|place| {
@@ -267,24 +285,12 @@ fn longest_configuration_pages(rng: &mut Rng, offer: Offer) {
     }
 }
 
-/// Each element of a threshold page in turn takes these four bytes.
+/// Each element of a threshold page in turn.
 fn threshold_quadruples(rng: &mut Rng, offer: Offer) {
-    let shelf = one_of_each(rng);
-    let inputs = accepted_thresholds(rng, &shelf);
-    for at in (8..inputs[1].len()).step_by(4) {
-        for four in quadruples() {
-            let mut changed = inputs.clone();
-            changed[1][at..at + 4].copy_from_slice(&four);
-            offer(THRESHOLDS.case(rng, changed));
+    let (others, page) = THRESHOLDS.accepted_for_one_of_each(rng);
+    for at in (8..page.len()).step_by(4) {
+        for changed in with_every_quadruple(&page, at) {
+            offer(THRESHOLDS.case(rng, with_page(&others, changed)));
         }
     }
-}
-
-/// Any four of a few telling bytes.
-pub fn quadruples() -> impl Iterator<Item = [u8; 4]> {
-    const TELLING: [u8; 6] = [0, 1, 127, 128, 254, 255];
-    (0..TELLING.len().pow(4)).map(|number| {
-        let digit = |place: u32| TELLING[number / TELLING.len().pow(place) % TELLING.len()];
-        [digit(3), digit(2), digit(1), digit(0)]
-    })
 }

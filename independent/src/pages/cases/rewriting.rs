@@ -1,14 +1,19 @@
 //! What readers handed back, to be written again, and records that no reader hands back.
 
-use super::reading::{accepted_status, accepted_thresholds, other_configuration, quadruples};
-use super::shapes::{one_of_each, shelf};
-use super::{page_written, writing_case, Case, Offer, ROOM};
-use crate::pages::calls::{
-    Call, CONFIGURATION_BYTES, READ_STATUS, READ_THRESHOLDS, REWRITE_CONFIGURATION, REWRITE_STATUS,
-    REWRITE_THRESHOLDS, STATUS_BYTES, THRESHOLDS_BYTES,
+use super::case::{every_output_length, roomy_case, writing_case, Offer};
+use super::changes::{with, with_every_quadruple, with_every_value};
+use super::reading::{accepted_status, accepted_thresholds, other_configuration};
+use super::shapes::{one_of_each, shelf, some_of_each};
+use crate::limits::{
+    record_bytes, CONFIGURATION_BYTES, FIRST_LETTER, LAST_LETTER, MOST_ENTRIES, MOST_OF_TYPE,
+    MOST_TEXT, STATUS_BYTES, STATUS_ENTRY_BYTES, THRESHOLDS_BYTES, THRESHOLD_ENTRY_BYTES, TYPES_AT,
 };
-use crate::record::Shelf;
+use crate::pages::calls::{
+    Call, READ_STATUS, READ_THRESHOLDS, REWRITE_CONFIGURATION, REWRITE_STATUS, REWRITE_THRESHOLDS,
+};
+use crate::record::{Kind, Shelf};
 use crate::rng::Rng;
+use crate::shown::Place;
 
 pub fn offer_all(rng: &mut Rng, offer: Offer) {
     configurations(rng, offer);
@@ -19,6 +24,9 @@ pub fn offer_all(rng: &mut Rng, offer: Offer) {
         }
         rewriter.every_value_of_every_byte(rng, offer);
         rewriter.every_output_length(rng, offer);
+    }
+    for _ in 0..120 {
+        bytes_too_large(rng, offer);
     }
     threshold_quadruples(rng, offer);
 }
@@ -37,7 +45,7 @@ static STATUS: Rewriter = Rewriter {
     reader: &READ_STATUS,
     accepted_page: accepted_status,
     record_bytes: STATUS_BYTES,
-    entry_bytes: 16,
+    entry_bytes: STATUS_ENTRY_BYTES,
 };
 
 static THRESHOLDS: Rewriter = Rewriter {
@@ -45,41 +53,58 @@ static THRESHOLDS: Rewriter = Rewriter {
     reader: &READ_THRESHOLDS,
     accepted_page: accepted_thresholds,
     record_bytes: THRESHOLDS_BYTES,
-    entry_bytes: 4,
+    entry_bytes: THRESHOLD_ENTRY_BYTES,
 };
+
+/// Values of a configuration's byte: type codes, and numbers and letters at the limits.
+const TELLING: [u8; 15] = [
+    0x00,
+    0x01,
+    0x02,
+    0x03,
+    0x04,
+    0x12,
+    0x13,
+    FIRST_LETTER - 1,
+    MOST_TEXT as u8,
+    MOST_TEXT as u8 + 1,
+    MOST_OF_TYPE as u8,
+    (MOST_OF_TYPE + 1) as u8,
+    LAST_LETTER,
+    LAST_LETTER + 1,
+    0xFF,
+];
 
 impl Rewriter {
     /// A configuration, and a record that the reader hands back under it.
-    fn accepted(&self, rng: &mut Rng, shelf: &Shelf) -> Vec<Vec<u8>> {
-        let mut inputs = (self.accepted_page)(rng, shelf);
+    fn accepted(&self, rng: &mut Rng, shelf: &Shelf) -> [Vec<u8>; 2] {
+        let inputs = (self.accepted_page)(rng, shelf);
         let before = rng.bytes(self.record_bytes);
         let answer = self.reader.answer(&inputs, &before);
-        inputs[1] = answer.bytes[1..].to_vec();
-        inputs
+        [shelf.configuration().block(), answer.bytes[1..].to_vec()]
     }
 
     fn changed(&self, rng: &mut Rng) -> Vec<Vec<u8>> {
         let shelf = shelf(rng);
-        let mut inputs = self.accepted(rng, &shelf);
+        let [mut configuration, mut record] = self.accepted(rng, &shelf);
         if rng.one_in(8) {
-            inputs[0] = other_configuration(rng, &shelf);
+            configuration = other_configuration(rng, &shelf);
         }
-        let record = &mut inputs[1];
         if rng.one_in(50) {
-            *record = rng.bytes(self.record_bytes);
+            record = rng.bytes(self.record_bytes);
         }
         if rng.one_in(8) {
-            other_number_of_entries(rng, record);
+            other_number_of_entries(rng, &mut record);
         }
         if rng.one_in(2) {
             for _ in 0..rng.range(1, 3) {
-                self.other_field(rng, record);
+                self.other_field(rng, &mut record);
             }
         }
         if rng.one_in(8) {
             record[rng.range(0, 1)] = rng.byte();
         }
-        inputs
+        vec![configuration, record]
     }
 
     fn other_field(&self, rng: &mut Rng, record: &mut [u8]) {
@@ -94,39 +119,30 @@ impl Rewriter {
     /// The bytes up to the last entry.
     fn used(&self, record: &[u8]) -> usize {
         let entries = usize::from(u16::from_be_bytes([record[2], record[3]]));
-        record.len().min(4 + self.entry_bytes * entries)
+        record.len().min(record_bytes(self.entry_bytes, entries))
     }
 
     fn every_value_of_every_byte(&self, rng: &mut Rng, offer: Offer) {
-        let shelf = one_of_each(rng);
-        let inputs = self.accepted(rng, &shelf);
-        for at in 0..self.used(&inputs[1]) + self.entry_bytes {
-            for value in 0..=255 {
-                let mut changed = inputs.clone();
-                changed[1][at] = value;
-                offer(self.roomy_case(rng, changed));
+        let [configuration, record] = self.accepted_for_one_of_each(rng);
+        for at in 0..self.used(&record) + self.entry_bytes {
+            for changed in with_every_value(&record, at) {
+                offer(roomy_case(
+                    rng,
+                    self.call,
+                    vec![configuration.clone(), changed],
+                ));
             }
         }
     }
 
     fn every_output_length(&self, rng: &mut Rng, offer: Offer) {
-        let shelf = one_of_each(rng);
-        let inputs = self.accepted(rng, &shelf);
-        for length in 0..page_written(self.call, &inputs).len() + 8 {
-            offer(Case {
-                call: self.call,
-                inputs: inputs.clone(),
-                lent: rng.bytes(length),
-            });
-        }
+        let inputs = self.accepted_for_one_of_each(rng);
+        every_output_length(rng, self.call, &inputs, offer);
     }
 
-    fn roomy_case(&self, rng: &mut Rng, inputs: Vec<Vec<u8>>) -> Case {
-        Case {
-            call: self.call,
-            inputs,
-            lent: rng.bytes(ROOM),
-        }
+    fn accepted_for_one_of_each(&self, rng: &mut Rng) -> [Vec<u8>; 2] {
+        let shelf = one_of_each(rng);
+        self.accepted(rng, &shelf)
     }
 }
 
@@ -135,8 +151,8 @@ fn other_number_of_entries(rng: &mut Rng, record: &mut [u8]) {
     let any = rng.word();
     let other = rng.pick(&[
         0,
-        72,
-        73,
+        MOST_ENTRIES as u16,
+        MOST_ENTRIES as u16 + 1,
         any,
         number.wrapping_add(1),
         number.wrapping_sub(1),
@@ -145,15 +161,42 @@ fn other_number_of_entries(rng: &mut Rng, record: &mut [u8]) {
     record[2..4].copy_from_slice(&other.to_be_bytes());
 }
 
-/// Each entry of a threshold record in turn takes these four bytes.
+/// A status record with one byte too large, in turn each byte of some overall entry and of some entry of
+/// each type: a field out of range, or one that the place does not show.
+fn bytes_too_large(rng: &mut Rng, offer: Offer) {
+    let shelf = some_of_each(rng);
+    let inputs = STATUS.accepted(rng, &shelf);
+    let places = shelf.configuration().places();
+    let individual = Kind::ALL.map(Place::Individual);
+    for place in [&[Place::Overall][..], &individual].concat() {
+        let entries = (0..places.len()).filter(|entry| places[*entry] == place);
+        let entry = rng.pick(&entries.collect::<Vec<usize>>());
+        for (at, most) in place.largest().into_iter().enumerate() {
+            let at = record_bytes(STATUS_ENTRY_BYTES, entry) + at;
+            byte_too_large(rng, &inputs, at, most, offer);
+        }
+    }
+}
+
+/// Just too large, and by any more. Not every byte can be.
+fn byte_too_large(rng: &mut Rng, inputs: &[Vec<u8>; 2], at: usize, most: u8, offer: Offer) {
+    let [configuration, record] = inputs;
+    if let Some(just) = most.checked_add(1) {
+        let any = rng.range(just.into(), u8::MAX.into()) as u8;
+        for value in [just, any] {
+            let inputs = vec![configuration.clone(), with(record, at, &[value])];
+            offer(roomy_case(rng, STATUS.call, inputs));
+        }
+    }
+}
+
+/// Each entry of a threshold record in turn.
 fn threshold_quadruples(rng: &mut Rng, offer: Offer) {
-    let shelf = one_of_each(rng);
-    let inputs = THRESHOLDS.accepted(rng, &shelf);
-    for at in (4..THRESHOLDS.used(&inputs[1])).step_by(4) {
-        for four in quadruples() {
-            let mut changed = inputs.clone();
-            changed[1][at..at + 4].copy_from_slice(&four);
-            offer(THRESHOLDS.roomy_case(rng, changed));
+    let [configuration, record] = THRESHOLDS.accepted_for_one_of_each(rng);
+    for at in (record_bytes(THRESHOLD_ENTRY_BYTES, 0)..THRESHOLDS.used(&record)).step_by(4) {
+        for changed in with_every_quadruple(&record, at) {
+            let inputs = vec![configuration.clone(), changed];
+            offer(roomy_case(rng, THRESHOLDS.call, inputs));
         }
     }
 }
@@ -169,11 +212,8 @@ fn configurations(rng: &mut Rng, offer: Offer) {
         offer(writing_case(rng, &REWRITE_CONFIGURATION, vec![block]));
     }
     let block = one_of_each(rng).configuration().block();
-    for at in 40..CONFIGURATION_BYTES {
-        for value in [
-            0x00, 0x01, 0x02, 0x03, 0x04, 0x12, 0x13, 0x1F, 0x20, 0x21, 0x40, 0x41, 0x7E, 0x7F,
-            0xFF,
-        ] {
+    for at in TYPES_AT..CONFIGURATION_BYTES {
+        for value in TELLING {
             let mut changed = block.clone();
             changed[at] = value;
             offer(writing_case(rng, &REWRITE_CONFIGURATION, vec![changed]));

@@ -2,17 +2,17 @@
 
 use crate::cases::{self, element, group, groups, shelf_of, text};
 use crate::element::Code;
+use crate::limits::{equal_share, most_elements_of, MOST_TEXT, MOST_TYPES};
 use crate::record::{Element, Group, Kind, Shelf, Thresholds};
 use crate::rng::Rng;
 
-const MOST_ELEMENTS: usize = 64;
 const STEPS: [i64; 4] = [-1, 0, 1, 2];
 
 pub fn shelf(rng: &mut Rng) -> Shelf {
     let mut groups = match rng.range(0, 7) {
         0 => types_without_elements(rng),
         1 => vec![one_full_type(rng)],
-        2 => groups(rng, 8, MOST_ELEMENTS),
+        2 => groups(rng, MOST_TYPES, most_elements_of(MOST_TYPES)),
         3 => twice_with_empty_types_between(rng),
         4 | 5 => types_of_chosen_codes(rng),
         _ => cases::shelf(rng).groups,
@@ -35,7 +35,7 @@ pub fn one_of_each(rng: &mut Rng) -> Shelf {
 /// A few elements of each type, in any order, some types twice and some of those without elements.
 pub fn some_of_each(rng: &mut Rng) -> Shelf {
     let mut kinds = Kind::ALL.map(|kind| (kind, rng.range(1, 4))).to_vec();
-    for _ in 0..rng.range(0, 4) {
+    for _ in 0..rng.range(0, MOST_TYPES - Kind::ALL.len()) {
         kinds.push((rng.pick(&Kind::ALL), rng.range(0, 2)));
     }
     for place in 0..kinds.len() {
@@ -62,7 +62,7 @@ pub fn between_two(rng: &mut Rng, kind: Kind, count: usize) -> Shelf {
 /// A full shelf of one type: each of the four limits in turn, with the reading at it and a step off.
 pub fn at_limits(rng: &mut Rng, kind: Kind) -> Shelf {
     let mut full = group(rng, kind, 0);
-    for place in 0..MOST_ELEMENTS {
+    for place in 0..most_elements_of(1) {
         let limit = LIMITS[place % LIMITS.len()];
         let step = STEPS[place / LIMITS.len() % STEPS.len()];
         full.elements.push(element_at_limit(rng, kind, limit, step));
@@ -71,19 +71,20 @@ pub fn at_limits(rng: &mut Rng, kind: Kind) -> Shelf {
 }
 
 fn types_without_elements(rng: &mut Rng) -> Vec<Group> {
-    let types = rng.range(1, 8);
+    let types = rng.range(1, MOST_TYPES);
     groups(rng, types, 0)
 }
 
 fn one_full_type(rng: &mut Rng) -> Group {
     let kind = rng.pick(&Kind::ALL);
-    group(rng, kind, MOST_ELEMENTS)
+    group(rng, kind, most_elements_of(1))
 }
 
 fn twice_with_empty_types_between(rng: &mut Rng) -> Vec<Group> {
     let kind = rng.pick(&Kind::ALL);
-    let between = rng.range(0, 6);
-    let (before, after) = (rng.range(1, 32), rng.range(1, 32));
+    let between = rng.range(0, MOST_TYPES - 2);
+    let half = equal_share(2);
+    let (before, after) = (rng.range(1, half), rng.range(1, half));
     let mut made = groups(rng, between, 0);
     made.insert(0, group(rng, kind, before));
     made.push(group(rng, kind, after));
@@ -91,7 +92,7 @@ fn twice_with_empty_types_between(rng: &mut Rng) -> Vec<Group> {
 }
 
 fn give_equal_text_lengths(rng: &mut Rng, groups: &mut [Group]) {
-    let length = rng.pick(&[0, 32]);
+    let length = rng.pick(&[0, MOST_TEXT]);
     for group in groups {
         group.text = text(rng, length);
     }
@@ -99,7 +100,7 @@ fn give_equal_text_lengths(rng: &mut Rng, groups: &mut [Group]) {
 
 /// Each type has elements with a few of the possible codes only, so that each can be the worst.
 fn types_of_chosen_codes(rng: &mut Rng) -> Vec<Group> {
-    let types = rng.range(1, 8);
+    let types = rng.range(1, MOST_TYPES);
     (0..types).map(|_| type_of_chosen_codes(rng)).collect()
 }
 

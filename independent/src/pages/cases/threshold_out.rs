@@ -1,10 +1,10 @@
 //! Threshold Out pages.
 
-use super::acting::{put, slots, Actor, Attempt, Chance, Slot};
-use super::reading::quadruples;
+use super::acting::{aimed, put, slots, Actor, Attempt, Chance, Slot, AIMS};
+use super::case::{Case, Offer};
+use super::changes::with_every_quadruple;
 use super::shapes::{between_two, one_of_each, shelf};
-use super::{Case, Offer};
-use crate::cases::{element, group, shelf_of};
+use crate::cases::{element, group, one_type, shelf_of};
 use crate::pages::calls::APPLY_THRESHOLDS;
 use crate::record::{Element, Kind, Shelf, Thresholds};
 use crate::rng::Rng;
@@ -230,16 +230,20 @@ fn every_mix_in_one_of_many(rng: &mut Rng, pair: Pair, offer: Offer) {
     for above in sources {
         for below in sources {
             for step in [0, 1, 2] {
-                let stored_out_of_order = step == 2 && above == below && above == Source::Stored;
-                if stored_out_of_order {
-                    continue;
-                }
-                let count = rng.range(1, 12);
-                for place in [0, count / 2, count - 1] {
-                    offer(mix_in_one(rng, pair, [above, below], step, count, place));
-                }
+                mix_in_each(rng, pair, [above, below], step, offer);
             }
         }
+    }
+}
+
+/// The first, the last or another element gets the mix; none if it had to be stored out of order.
+fn mix_in_each(rng: &mut Rng, pair: Pair, sources: [Source; 2], step: u8, offer: Offer) {
+    if step == 2 && sources == [Source::Stored; 2] {
+        return;
+    }
+    let count = rng.range(1, 12);
+    for place in [0, count / 2, count - 1] {
+        offer(mix_in_one(rng, pair, sources, step, count, place));
     }
 }
 
@@ -255,7 +259,7 @@ fn mix_in_one(
     let above = rng.range(2, 254) as u8;
     let mut mix = Mix::new(rng, pair);
     mix.take(pair.above, sources[0], above);
-    mix.take(pair.below, sources[1], above + step - 1);
+    mix.take(pair.below, sources[1], above - 1 + step);
     while !mix.stored.keep_order(pair.kind) {
         mix.stored_anew(rng, pair, sources);
     }
@@ -344,19 +348,16 @@ fn keeper(rng: &mut Rng, kind: Kind, overall: [u8; 4]) -> (Element, [u8; 4]) {
 
 /// Each of the four bytes of each element of a type is set by itself.
 fn every_single_byte(rng: &mut Rng, kind: Kind, offer: Offer) {
-    for count in [0, 3] {
-        for place in 0..=count {
-            for at in 0..4 {
-                for value in [1, 255, rng.nonzero_byte()] {
-                    let shelf = between_two(rng, kind, count);
-                    let slot = slots(&shelf)[1 + shelf.groups[0].elements.len() + place];
-                    let mut page = THRESHOLD_OUT.blank(&shelf);
-                    page[slot.at + at] = value;
-                    let case = THRESHOLD_OUT.case(&shelf, page);
-                    let refused = case.answer().number == 7;
-                    assert_eq!(refused, at >= had(kind), "{kind:?}, byte {at}");
-                    offer(case);
-                }
+    for aim in AIMS {
+        for at in 0..4 {
+            for value in [1, 255, rng.nonzero_byte()] {
+                let (shelf, slot) = aimed(rng, kind, aim);
+                let mut page = THRESHOLD_OUT.blank(&shelf);
+                page[slot.at + at] = value;
+                let case = THRESHOLD_OUT.case(&shelf, page);
+                let refused = case.answer().number == 7;
+                assert_eq!(refused, at >= had(kind), "{kind:?}, byte {at}");
+                offer(case);
             }
         }
     }
@@ -365,8 +366,7 @@ fn every_single_byte(rng: &mut Rng, kind: Kind, offer: Offer) {
 /// One type with up to three elements; three elements of the page in four have no byte that the type lacks.
 fn few_elements(rng: &mut Rng, kind: Kind) -> Case {
     let count = rng.range(1, 3);
-    let groups = vec![group(rng, kind, count)];
-    let shelf = shelf_of(rng, groups);
+    let shelf = one_type(rng, kind, count);
     let mut page = THRESHOLD_OUT.blank(&shelf);
     for slot in slots(&shelf) {
         let bytes = match rng.range(0, 7) {
@@ -391,14 +391,12 @@ fn as_stored(rng: &mut Rng) -> Case {
     THRESHOLD_OUT.case(&shelf, page)
 }
 
-/// Each element of a page in turn takes these four bytes.
+/// Each element of a page in turn.
 fn every_quadruple(rng: &mut Rng, offer: Offer) {
     for place in 0..slots(&one_of_each(rng)).len() {
         let shelf = one_of_each(rng);
         let slot = slots(&shelf)[place];
-        for four in quadruples() {
-            let mut page = THRESHOLD_OUT.blank(&shelf);
-            put(&mut page, slot, four);
+        for page in with_every_quadruple(&THRESHOLD_OUT.blank(&shelf), slot.at) {
             offer(THRESHOLD_OUT.case(&shelf, page));
         }
     }

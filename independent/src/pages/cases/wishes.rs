@@ -2,6 +2,7 @@
 
 use super::acting::Chance;
 use super::control::{four_bytes, named, parts_of};
+use crate::limits::HIGHEST_SPEED;
 use crate::record::Kind;
 use crate::rng::Rng;
 
@@ -51,7 +52,7 @@ pub fn any_setting(rng: &mut Rng, kind: Kind) -> u32 {
 }
 
 fn any_speed(rng: &mut Rng) -> u32 {
-    rng.range(1, 7) as u32
+    rng.range(1, HIGHEST_SPEED.into()) as u32
 }
 
 impl Few {

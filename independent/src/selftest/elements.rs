@@ -1,0 +1,219 @@
+//! The paper's numbers for one element, its thresholds, and the block of shelf A.
+
+use super::checks::Checks;
+use super::examples::{
+    current, fan, fan_at, fans_a, high_critical, high_warning, largest_shelf, low_critical,
+    low_warning, shelf_a, temperature, voltage,
+};
+use crate::element::{Code, Limits, Verdict};
+use crate::limits::{block_bytes, HIGHEST_NOMINAL, LONGEST_BLOCK, SLOTS_AT, TYPES_AT};
+use crate::record::{self, Element, FanSettings, Kind, Settings, Thresholds};
+
+pub fn check(checks: &mut Checks) {
+    fan_status(checks);
+    temperature_verdicts(checks);
+    voltage_verdicts(checks);
+    current_verdicts(checks);
+    thresholds(checks);
+    block_of_fans_a(checks);
+}
+
+fn verdicts_of<const N: usize>(checks: &mut Checks, cases: [(&str, Element, Verdict); N]) {
+    for (what, element, verdict) in cases {
+        checks.equal(what, element.verdict(), verdict);
+    }
+}
+
+fn shown_of<const N: usize>(checks: &mut Checks, cases: [(&str, Element, [u8; 4]); N]) {
+    for (what, element, status) in cases {
+        checks.equal(what, element.status(), status);
+    }
+}
+
+fn nothing_trips() -> Verdict {
+    Verdict {
+        code: Code::Normal,
+        limits: Limits::default(),
+    }
+}
+
+fn warning_over() -> Verdict {
+    Verdict {
+        code: Code::NonCritical,
+        limits: Limits {
+            warning_over: true,
+            ..Limits::default()
+        },
+    }
+}
+
+fn critical_over() -> Verdict {
+    Verdict {
+        code: Code::Critical,
+        limits: Limits {
+            critical_over: true,
+            ..Limits::default()
+        },
+    }
+}
+
+fn critical_under() -> Verdict {
+    Verdict {
+        code: Code::Critical,
+        limits: Limits {
+            critical_under: true,
+            ..Limits::default()
+        },
+    }
+}
+
+fn fan_status(checks: &mut Checks) {
+    let fans = fans_a().map(|fan| ("fan of A", fan, [0x01, 0x00, 0x78, 0x23]));
+    shown_of(checks, fans);
+    let standing = fan_at(0);
+    checks.equal("ON, reading 0", standing.verdict().code, Code::Critical);
+    let off = Element::Cooling {
+        settings: FanSettings {
+            common: Settings::default(),
+            on: false,
+            speed: 3,
+        },
+        thresholds: Thresholds::default(),
+        reading: 0,
+        nominal: 0,
+    };
+    let shown = [
+        ("ON, reading 0", standing, [0x02, 0x00, 0x00, 0x23]),
+        ("OFF, reading 0", off, [0x01, 0x00, 0x00, 0x13]),
+        ("reading 2047", fan_at(2047), [0x01, 0x07, 0xFF, 0x23]),
+    ];
+    shown_of(checks, shown);
+}
+
+fn temperature_verdicts(checks: &mut Checks) {
+    let cool = temperature(64, high_warning(64));
+    let warm = temperature(65, high_warning(64));
+    let hot = temperature(65, high_critical(64));
+    let at_limit = temperature(10, low_warning(10));
+    let chilly = temperature(9, low_warning(10));
+    let cold = temperature(9, low_critical(10));
+    let silent = temperature(0, Thresholds::from_bytes([64, 64, 10, 10]));
+    let verdicts = [
+        ("byte 64, high warning 64", cool, nothing_trips()),
+        ("byte 65, high warning 64", warm, warning_over()),
+        ("byte 10, low warning 10", at_limit, nothing_trips()),
+    ];
+    verdicts_of(checks, verdicts);
+    checks.equal("byte 0", silent.verdict().code, Code::NoReading);
+    let shown = [
+        ("OT WARNING shown", warm, [0x03, 0x00, 0x41, 0x04]),
+        ("OT FAILURE shown", hot, [0x02, 0x00, 0x41, 0x08]),
+        ("UT FAILURE shown", cold, [0x02, 0x00, 0x09, 0x02]),
+        ("UT WARNING shown", chilly, [0x03, 0x00, 0x09, 0x01]),
+        ("byte 0 shown", silent, [0x06, 0x00, 0x00, 0x00]),
+    ];
+    shown_of(checks, shown);
+}
+
+fn voltage_verdicts(checks: &mut Checks) {
+    let at_limit = voltage(1320, 1200, high_critical(20));
+    let above = voltage(1321, 1200, high_critical(20));
+    let below_half = voltage(358, 350, high_warning(5));
+    let above_half = voltage(359, 350, high_warning(5));
+    let at_low_limit = voltage(1080, 1200, low_warning(20));
+    let low = voltage(1079, 1200, low_warning(20));
+    let negative = voltage(-1, 1200, low_critical(20));
+    let highest = voltage(i16::MAX, 1, Thresholds::default());
+    let lowest = voltage(i16::MIN, HIGHEST_NOMINAL, Thresholds::default());
+    let verdicts = [
+        ("N 1200, V 1320", at_limit, nothing_trips()),
+        ("N 1200, V 1321", above, critical_over()),
+        ("N 350, V 358", below_half, nothing_trips()),
+        ("N 350, V 359", above_half, warning_over()),
+        ("N 1200, V 1080", at_low_limit, nothing_trips()),
+        ("N 1200, V -1", negative, critical_under()),
+        ("no limits, high", highest, nothing_trips()),
+        ("no limits, low", lowest, nothing_trips()),
+    ];
+    verdicts_of(checks, verdicts);
+    let shown = [
+        ("CRIT OVER shown", above, [0x02, 0x02, 0x05, 0x29]),
+        ("WARN OVER shown", above_half, [0x03, 0x08, 0x01, 0x67]),
+        ("CRIT UNDER shown", negative, [0x02, 0x01, 0xFF, 0xFF]),
+        ("WARN UNDER shown", low, [0x03, 0x04, 0x04, 0x37]),
+    ];
+    shown_of(checks, shown);
+}
+
+fn current_verdicts(checks: &mut Checks) {
+    let at_limit = current(1320, 1200, high_critical(20));
+    let above = current(1321, 1200, high_critical(20));
+    let warned = current(359, 350, high_warning(5));
+    let negative = current(-1, 1200, high_critical(20));
+    let shown = [
+        ("current at its limit", at_limit, [0x01, 0x00, 0x05, 0x28]),
+        ("CRIT OVER shown", above, [0x02, 0x02, 0x05, 0x29]),
+        ("WARN OVER shown", warned, [0x03, 0x08, 0x01, 0x67]),
+        ("negative current", negative, [0x01, 0x00, 0xFF, 0xFF]),
+    ];
+    shown_of(checks, shown);
+}
+
+fn thresholds(checks: &mut Checks) {
+    let stored = Thresholds::from_bytes([90, 80, 20, 10]);
+    let overall = Thresholds::from_bytes([91, 0, 21, 0]);
+    let individual = Thresholds::from_bytes([92, 82, 0, 0]);
+    checks.equal(
+        "individual, else overall, else stored",
+        stored.joined(overall, individual),
+        Thresholds::from_bytes([92, 82, 21, 10]),
+    );
+    let order_kept = |kind: Kind, bytes| Thresholds::from_bytes(bytes).keep_order(kind);
+    for kind in [Kind::Temperature, Kind::Voltage, Kind::Current] {
+        checks.equal("high bytes equal", order_kept(kind, [9, 9, 0, 0]), true);
+        checks.equal("high bytes in order", order_kept(kind, [10, 9, 0, 0]), true);
+        checks.equal(
+            "high bytes out of order",
+            order_kept(kind, [9, 10, 0, 0]),
+            false,
+        );
+        checks.equal("no high critical", order_kept(kind, [0, 10, 0, 0]), true);
+    }
+    for kind in [Kind::Temperature, Kind::Voltage] {
+        let warning_greater_kept = kind == Kind::Temperature;
+        checks.equal("low bytes equal", order_kept(kind, [0, 0, 9, 9]), true);
+        checks.equal("low warning alone", order_kept(kind, [0, 0, 9, 0]), true);
+        checks.equal("low critical alone", order_kept(kind, [0, 0, 0, 9]), true);
+        let warning_greater = order_kept(kind, [0, 0, 10, 9]);
+        checks.equal("low warning greater", warning_greater, warning_greater_kept);
+        let critical_greater = order_kept(kind, [0, 0, 9, 10]);
+        checks.equal(
+            "low critical greater",
+            critical_greater,
+            !warning_greater_kept,
+        );
+    }
+}
+
+fn block_of_fans_a(checks: &mut Checks) {
+    let shelf = shelf_a(fans_a().to_vec());
+    let block = shelf.block();
+    checks.equal("length of A", block.len(), block_bytes(3));
+    checks.equal("generation of A", &block[..4], &[0, 0, 0, 7]);
+    checks.equal("types of A", &block[TYPES_AT..SLOTS_AT], &[1, 0, 0, 0]);
+    checks.equal(
+        "slot of A",
+        &block[SLOTS_AT..][..7],
+        &[3, 3, 3, 0, b'F', b'a', b'n'],
+    );
+    let element = [0, 0, 0, 0x23, 0, 0, 0, 0, 0, 0x78, 0, 0, 0, 0, 0, 0];
+    checks.equal("last fan of A", &block[block_bytes(2)..], &element);
+    checks.equal("A is well formed", shelf.well_formed(), true);
+    checks.equal("A read back", record::read(&block), Some(shelf));
+    let mut largest = largest_shelf();
+    checks.equal("longest block", largest.block().len(), LONGEST_BLOCK);
+    checks.equal("most elements", largest.well_formed(), true);
+    let last = largest.groups.last_mut().expect("a type");
+    last.elements.push(fan(3));
+    checks.equal("an element more", largest.well_formed(), false);
+}

@@ -1,5 +1,5 @@
 -- Of the parts that bring the elements of a type to their wishes, none comes before the one that is sent. Assumes nothing.
-use mathlib.Core.Path.{_≡_, refl, sym, ap, ap₂, _∙_}
+use mathlib.Core.Path.{_≡_, refl, sym, ap, _∙_}
 use mathlib.Core.Bool.{Bool, true, false, not, _&&_}
 use mathlib.Core.List.{List, [], _∷_, _++_}
 use mathlib.Core.Logic.{_⊎_, inl, inr, ⊎-elim}
@@ -108,10 +108,6 @@ tried-again : (k : Kind) (x : List ℕ) → settingsOf k x .speed ≡ 0 → (tri
 unfolding tried
 tried-again k x z = (ap (λ n. requestBytes k (requestFor (settingsOf k x) false n)) z, ap (λ n. requestBytes k (requestFor (settingsOf k x) true n)) z)
 
-select-is : (k : Kind) (o : List ℕ) → controlOf k o .select ≡ selected o
-unfolding controlOf
-select-is k o = by-case (selected o) (λ t. rw t) (λ t. rw t)
-
 module _ (k : Kind) (e w : ℕ → List ℕ) (m : ℕ) where
   abbrev costs : List ℕ → ℕ
   costs o = cost k e w m o
@@ -120,9 +116,9 @@ module _ (k : Kind) (e w : ℕ → List ℕ) (m : ℕ) where
   sent o = part k e w m o
 
   -- what is counted: the overall SELECT, and the elements that it does not do
-  pub cost-is : (o : List ℕ) → cost k e w m o ≡ num (controlOf k o .select) + sumBelow (λ i. num (not (brings k (controlOf k o) (e i) (w i)))) m
+  pub cost-is : (o : List ℕ) → cost k e w m o ≡ selects o + sumBelow (λ i. num (not (brings k (controlOf k o) (e i) (w i)))) m
   unfolding cost
-  cost-is o = ap₂ _+_ (ap num (sym (select-is k o))) (sum-same _ _ m (λ i l. one-selects k (e i) (w i) (controlOf k o)))
+  cost-is o = ap (λ (n : ℕ). selects o + n) (sum-same _ _ m (λ i l. one-selects k (e i) (w i) (controlOf k o)))
 
   -- the order of overall elements: fewer SELECTs, or as many and not the larger number
   abbrev Ranks : List ℕ → List ℕ → Type 0

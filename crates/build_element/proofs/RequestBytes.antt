@@ -1,13 +1,14 @@
 -- The element that asks for given settings: its bytes, and what they say. Assumes nothing.
-use mathlib.Core.Path.{_≡_, refl, ap, _∙_}
+use mathlib.Core.Path.{_≡_, refl, sym, ap, _∙_}
 use mathlib.Core.Bool.{Bool, true, false, not, _&&_, _||_}
 use mathlib.Core.List.{List, [], _∷_}
-use Prim.Native.Nat.{ℕ, _+_, _%_, _<_, _≤_}
+use Prim.Native.Nat.{ℕ, _+_, _/_, _%_, _<_, _≤_}
 use native.Mathlib.Omega.{arith}
 use lib.Bits.{bitOr}
 use lib.Dec.{eqb, leb, ltb}
 use lib.ListN.{getD}
 use borrow.Author.Tests.{eqb-true, eq-eqb, ne-eqb, lt-ltb, le-leb, lt-leb}
+use Rattle.bits.specs.Bits.{num, bit}
 use Rattle.bits.specs.Numbers.{big}
 use Rattle.bits.specs.Places.{fourAt}
 use Rattle.bits.proofs.Logic.{byByteIf}
@@ -15,10 +16,11 @@ use Rattle.element.specs.declared.types.Kind.{Kind}
 use Rattle.element.specs.declared.settings.Settings.{Settings}
 use Rattle.element.specs.declared.control.Control.{Control}
 use Rattle.element.specs.Settings.{settingsOf, settingsBytes}
-use Rattle.element.specs.Control.{acted, settled}
+use Rattle.element.specs.Control.{selected, controlOf, acted}
+use Rattle.element.proofs.Acting.{settled-by, settled-alone}
 use Rattle.build_element.specs.Wishes.{inReach, alike, silent, withSelect, requestBytes, requestFor, clearing, turning, own, brings, one}
 use Rattle.build_element.proofs.SoundLayout.{first-small}
-use Rattle.build_element.specs.Parts.{tried, tries, sooner}
+use Rattle.build_element.specs.Parts.{selects, tried, tries, sooner}
 
 or-select : (x : ℕ) → x < 128 → bitOr x 128 ≡ 128 + x
 or-select x h =
@@ -30,6 +32,11 @@ ask-is k r {e} p =
     let h : getD e 0 0 < 128 = rw p (first-small k r) in
     ap (λ (x : ℕ). x ∷ getD e 1 0 ∷ getD e 2 0 ∷ getD e 3 0 ∷ []) (or-select (getD e 0 0) h) ∙ ap withSelect p
 
+-- SELECT is the top bit of byte 0: the number above the other seven
+pub select-counts : (o : List ℕ) → getD o 0 0 < 256 → getD o 0 0 / 128 ≡ selects o
+select-counts o h =
+    eqb-true (getD o 0 0 / 128) (selects o) (byByteIf (λ b. true) (λ b. eqb (b / 128) (num (bit 7 b))) refl (getD o 0 0) h refl)
+
 -- what the calls say
 pub reach-is : (k : Kind) (e w : List ℕ) {s x : Settings} → s ≡ settingsOf k e → x ≡ settingsOf k w → s .swap || not (x .swap) ≡ inReach k e w
 unfolding inReach
@@ -40,21 +47,24 @@ pub own-is : (k : Kind) (e w : List ℕ) {s x r : Settings} {n : ℕ} {c : List 
 unfolding own
 own-is k e w p q u g h = h ∙ rw (g, u, p, q)
 
-module _ (k : Kind) (c : Control) (e w : List ℕ) where
-  pub acts-is : {s x : Settings} {y : List ℕ} {b : Bool} → c .select ≡ true → s ≡ settingsOf k e → x ≡ acted (c .request) s → y ≡ settingsBytes k x → b ≡ alike y w → b ≡ brings k c e w
-  unfolding brings settled
-  acts-is t hs hx hy h = h ∙ rw (hy, hx, hs, t)
+-- under a control element of the bytes o, which are decoded only where they are selected
+module _ (k : Kind) (o e w : List ℕ) where
+  module _ {d b : Bool} (g : d ≡ selected o) where
+    pub acts-is : {c : Control} {s x : Settings} {y : List ℕ} → d ≡ true → c ≡ controlOf k o → s ≡ settingsOf k e → x ≡ acted (c .request) s → y ≡ settingsBytes k x → b ≡ alike y w
+        → b ≡ brings k (controlOf k o) e w
+    unfolding brings
+    acts-is t hc hs hx hy h = h ∙ rw (hy, hx, hs, hc) (ap (λ (z : List ℕ). alike z w) (sym (settled-by k o e (sym g ∙ t))))
 
-  pub leaves-is : {b : Bool} → c .select ≡ false → b ≡ alike e w → b ≡ brings k c e w
-  unfolding brings settled
-  leaves-is t h = h ∙ rw t
+    pub leaves-is : d ≡ false → b ≡ alike e w → b ≡ brings k (controlOf k o) e w
+    unfolding brings
+    leaves-is t h = h ∙ ap (λ (z : List ℕ). alike z w) (sym (settled-alone k o e (sym g ∙ t)))
 
-  module _ {b : Bool} (q : b ≡ brings k c e w) where
-    pub one-silent : b ≡ true → silent ≡ one k c e w
+  module _ {b : Bool} (q : b ≡ brings k (controlOf k o) e w) where
+    pub one-silent : b ≡ true → silent ≡ one k (controlOf k o) e w
     unfolding one
     one-silent t = rw (← q, t)
 
-    pub one-own : {x : List ℕ} → b ≡ false → x ≡ own k e w → x ≡ one k c e w
+    pub one-own : {x : List ℕ} → b ≡ false → x ≡ own k e w → x ≡ one k (controlOf k o) e w
     unfolding one
     one-own t h = h ∙ rw (← q, t)
 

@@ -3,6 +3,7 @@ use element::control::Control;
 use element::settings::Settings;
 use element::types::Kind;
 ghost use mathlib.Core.Path.{_≡_};
+ghost use Rattle.element.specs.Control.{controlOf};
 ghost use Rattle.build_element.specs.Wishes.{inReach, alike, requestBytes, requestFor, turning, own, brings, one};
 ghost use Rattle.build_element.specs.Parts.{tried, tries, sooner};
 
@@ -65,19 +66,20 @@ fn own(kind: Kind, stored: [u8; 4], wanted: [u8; 4]) -> [u8; 4]
 }
 
 // Whether a control element brings stored settings to wanted ones.
-pub fn brings(kind: Kind, control: Control, stored: [u8; 4], wanted: [u8; 4]) -> bool
-    ensures { λ r. ⌜ r ≡ brings kind control stored wanted ⌝ }
+pub fn brings(kind: Kind, control: [u8; 4], stored: [u8; 4], wanted: [u8; 4]) -> bool
+    ensures { λ r. ⌜ r ≡ brings kind (controlOf kind control) stored wanted ⌝ }
 {
-    if control.select {
-        alike(control.act(Settings::of(kind, stored)).bytes(kind), wanted)
+    if Control::is_selected(control) {
+        let set = Control::of(kind, control).act(Settings::of(kind, stored));
+        alike(set.bytes(kind), wanted)
     } else {
         alike(stored, wanted)
     }
 }
 
 // The individual element to send under an overall one: none where that does it.
-pub fn one(kind: Kind, overall: Control, stored: [u8; 4], wanted: [u8; 4]) -> [u8; 4]
-    ensures { λ r. ⌜ r ≡ one kind overall stored wanted ⌝ }
+pub fn one(kind: Kind, overall: [u8; 4], stored: [u8; 4], wanted: [u8; 4]) -> [u8; 4]
+    ensures { λ r. ⌜ r ≡ one kind (controlOf kind overall) stored wanted ⌝ }
 {
     if brings(kind, overall, stored, wanted) {
         SILENT

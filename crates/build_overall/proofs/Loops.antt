@@ -2,19 +2,20 @@
 use mathlib.Core.Path.{_≡_, refl, sym, ap, _∙_}
 use mathlib.Core.Bool.{Bool, true, false, not}
 use mathlib.Core.List.{List}
-use Prim.Native.Nat.{ℕ, suc, _+_, _-_, _<_, _≤_}
+use Prim.Native.Nat.{ℕ, suc, _+_, _-_, _/_, _<_, _≤_}
 use native.Mathlib.Numerals.{add-one}
 use native.Mathlib.Omega.{arith}
+use lib.ListN.{getD}
 use mir.Val.{boolByte}
 use borrow.Author.Tests.{lt-ltb, le-ltb, ltb-true}
 use Rattle.bits.specs.Choice.{allBelow, firstBelow, sumBelow}
 use Rattle.bits.specs.Bits.{num}
 use Rattle.bits.proofs.Halves.{num-small}
 use Rattle.bits.proofs.Logic.{by-case, pick-yes, pick-no, fails, first-none, first-at, first-passes}
-use Rattle.element.specs.declared.control.Control.{Control}
 use Rattle.element.specs.Control.{controlOf}
 use Rattle.build_element.specs.Wishes.{silent, alike, brings}
-use Rattle.build_element.specs.Parts.{cost, tried, tries, sooner, better, bestTried, bestOf, overallFor}
+use Rattle.build_element.specs.Parts.{selects, cost, tried, tries, sooner, better, bestTried, bestOf, overallFor}
+use Rattle.build_element.proofs.RequestBytes.{select-counts}
 use Rattle.build_element.proofs.FirstElement.{alike-same}
 use Rattle.build_element.proofs.BestPart.{cost-is, tries-do, best-again, best-none}
 use Rattle.shelf.specs.Elements.{settingsAt}
@@ -66,25 +67,29 @@ module _ (s w : List ℕ) (at : Slot) where
   abbrev m : ℕ
   m = at .end - at .first
 
-  -- what is counted of the first n elements under an overall element that asks for c
-  abbrev pub counted : Control → ℕ → ℕ
-  counted c n = num (c .select) + sumBelow (λ i. num (not (brings (at .kind) c (e i) (x i)))) n
+  -- what is counted of the first n elements under the overall element o
+  module _ (o : List ℕ) where
+    abbrev does : ℕ → Bool
+    does i = brings (at .kind) (controlOf (at .kind) o) (e i) (x i)
 
-  pub counted-none : (c : Control) → boolByte (c .select) ≡ counted c (at .first - at .first)
-  counted-none c = let z : at .first - at .first ≡ 0 = omega arith in rw (z, bool-num) (omega arith)
+    abbrev pub counted : ℕ → ℕ
+    counted n = selects o + sumBelow (λ i. num (not (does i))) n
 
-  pub counted-next : (c : Control) {p q : List ℕ} {d : Bool} {n : ℕ} (j : ℕ) → at .first ≤ j → p ≡ settingsAt s j → q ≡ settingsIn w j → d ≡ brings (at .kind) c p q
-      → n ≡ counted c (j - at .first) → n + boolByte (not d) ≡ counted c (j + 1 - at .first)
-  counted-next c {p} {q} {d} {n} j l hp hq hd hn =
-      let i = j - at .first in
-      let z : at .first + i ≡ j = omega arith in
-      let y : j + 1 - at .first ≡ suc i = omega arith in
-      let g : brings (at .kind) c (e i) (x i) ≡ d = rw (z, hd, hp, hq) in
-      rw (y, g, bool-num (not d), hn) (omega arith)
+    pub counted-none : getD o 0 0 < 256 → (getD o 0 0 / 128 ≤ 1) × (getD o 0 0 / 128 ≡ counted (at .first - at .first))
+    counted-none h = let z : at .first - at .first ≡ 0 = omega arith in (omega arith, rw z (omega (arith, select-counts o h)))
 
-  pub counted-all : (c : Control) (o : List ℕ) {n : ℕ} (i : ℕ) → c ≡ controlOf (at .kind) o → i ≡ m → n ≡ counted c i → n ≡ costOf s w at o
-  unfolding costOf
-  counted-all c o i h z g = rw (g, z, h) (sym (cost-is (at .kind) e x m o))
+    pub counted-next : {p q : List ℕ} {d : Bool} {n : ℕ} (j : ℕ) → at .first ≤ j → p ≡ settingsAt s j → q ≡ settingsIn w j → d ≡ brings (at .kind) (controlOf (at .kind) o) p q
+        → n ≡ counted (j - at .first) → n + boolByte (not d) ≡ counted (j + 1 - at .first)
+    counted-next {p} {q} {d} {n} j l hp hq hd hn =
+        let i = j - at .first in
+        let z : at .first + i ≡ j = omega arith in
+        let y : j + 1 - at .first ≡ suc i = omega arith in
+        let g : does i ≡ d = rw (z, hd, hp, hq) in
+        rw (y, g, bool-num (not d), hn) (omega arith)
+
+    pub counted-all : {n : ℕ} (i : ℕ) → i ≡ m → n ≡ counted i → n ≡ costOf s w at o
+    unfolding costOf
+    counted-all i z g = rw (g, z) (sym (cost-is (at .kind) e x m o))
 
   -- the better of the best so far and o
   module _ (b : Candidate) (o : List ℕ) {n : ℕ} {d : Bool} (h : n ≡ costOf s w at o) (g : d ≡ sooner n o (b .selects) (b .overall)) where

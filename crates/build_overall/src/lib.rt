@@ -1,7 +1,6 @@
 // The overall element for the elements of one type: the one that leaves the fewest SELECTs to send, the first in the dictionary among equals.
 //
 // Only what the wanted records ask for is tried, and the overall element unselected.
-use element::control::Control;
 use page::slots::Slot;
 use shelf::elements;
 ghost use mathlib.Core.Path.{_≡_};
@@ -29,13 +28,12 @@ fn cost(shelf: &[u8], wanted: &[u8], at: Slot, overall: [u8; 4]) -> u32
     ensures { λ r. ⌜ r ≡ costOf (now (shelf .entry)) (now (wanted .entry)) at overall ⌝ }
 {
     let kind = at.kind;
-    let control = Control::of(kind, overall);
-    let mut n = control.select as u32;
+    let mut n = (overall[0] >> 7) as u32;
     let mut j = at.first;
     while j < at.end {
         let done = build_element::brings(
             kind,
-            control,
+            overall,
             elements::settings_at(shelf, j),
             wanted_at(wanted, j),
         );

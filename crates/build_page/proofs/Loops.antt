@@ -1,22 +1,21 @@
 -- What one turn of each loop of the builder does, and the overall element that stands at each slot. Assumes nothing.
-use mathlib.Core.Path.{_≡_, refl, sym, ap, _∙_}
+use mathlib.Core.Path.{_≡_, sym, ap, _∙_}
 use mathlib.Core.Bool.{Bool, true, false, not}
 use mathlib.Core.List.{List}
 use Prim.Native.Nat.{ℕ, zero, suc, _+_, _*_, _-_, _/_, _<_, _≤_}
 use native.Mathlib.Numerals.{add-one}
 use native.Mathlib.Omega.{arith}
-use lib.Dec.{eqb, ltb}
+use lib.Dec.{ltb}
 use lib.ListN.{length, getD}
 use borrow.Author.Tests.{eqb-true, eqb-false, eq-eqb, le-ltb, ltb-true, ltb-false}
 use Rattle.bits.specs.Choice.{pick, allBelow}
-use Rattle.bits.specs.Bits.{num, bit}
-use Rattle.bits.proofs.Logic.{by-case, pick-yes, pick-no, below-all, below-fails, below-next, fails, first-none, byByteIf}
+use Rattle.bits.proofs.Logic.{by-case, pick-yes, pick-no, below-all, below-fails, below-next, fails, first-none}
 use Rattle.element.specs.declared.types.Kind.{Kind}
-use Rattle.element.specs.declared.control.Control.{Control}
 use Rattle.element.specs.Settings.{settingsFormed}
 use Rattle.element.specs.Control.{controlOf}
 use Rattle.build_element.specs.Wishes.{silent, inReach, one}
 use Rattle.build_element.specs.Parts.{selects}
+use Rattle.build_element.proofs.RequestBytes.{select-counts}
 use Rattle.shelf.specs.Limits.{mostTypes}
 use Rattle.shelf.specs.Types.{typeCount, before, elementsOf, kindAt}
 use Rattle.shelf_formed.specs.Formed.{wellFormed}
@@ -58,10 +57,10 @@ module _ (s w : List ℕ) (at : Slot) (o : List ℕ) where
   unfolding rowUnder
   row-overall t = sym (pick-yes _ _ _ t)
 
-  pub row-own : {c : Control} {e x y : List ℕ} → at .overall ≡ false → c ≡ controlOf (at .kind) o → e ≡ settingsAt s (at .first) → x ≡ settingsIn w (at .first)
-      → y ≡ one (at .kind) c e x → y ≡ rowUnder s w at o
+  pub row-own : {e x y : List ℕ} → at .overall ≡ false → e ≡ settingsAt s (at .first) → x ≡ settingsIn w (at .first) → y ≡ one (at .kind) (controlOf (at .kind) o) e x
+      → y ≡ rowUnder s w at o
   unfolding rowUnder
-  row-own t hc he hx h = h ∙ rw (t, hc, he, hx)
+  row-own t he hx h = h ∙ rw (t, he, hx)
 
 module _ (s : List ℕ) where
   -- past the last type
@@ -134,14 +133,10 @@ module _ (s : List ℕ) where
         (rw (add-one i) q, hy ∙ rw ha (ap (rowUnder s w (slotAt s i)) (q ∙ stands i)))
 
     -- and counts
-    byte-counts : (b : ℕ) → b < 256 → b / 128 ≡ num (bit 7 b)
-    byte-counts b h = eqb-true (b / 128) (num (bit 7 b)) (byByteIf (λ x. true) (λ x. eqb (x / 128) (num (bit 7 x))) refl b h refl)
-
     pub row-counts : (i : ℕ) {y : List ℕ} → y ≡ rowFor s w i → (getD y 0 0 / 128 ≡ selects (rowFor s w i)) × (getD y 0 0 / 128 ≤ 1)
     row-counts i {y} h =
-        let b = getD (rowFor s w i) 0 0 in
         let l = rowFor-row s w i .1 0 in
-        rw h (byte-counts b l, omega arith)
+        rw h (select-counts (rowFor s w i) l, omega arith)
 
     pub count-next : (i : ℕ) {n : ℕ} {y : List ℕ} → n ≡ selectsFor s w i → y ≡ rowFor s w i → n + getD y 0 0 / 128 ≡ selectsFor s w (i + 1)
     count-next i h g = rw (add-one i) (omega (arith, h, row-counts i g .0))

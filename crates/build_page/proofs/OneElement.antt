@@ -16,7 +16,6 @@ use Rattle.element.specs.declared.types.Kind.{Kind}
 use Rattle.element.specs.Control.{controlOf}
 use Rattle.build_element.specs.Wishes.{silent, brings}
 use Rattle.build_element.specs.Parts.{cost, overallFor}
-use Rattle.build_element.proofs.RequestSays.{silent-control}
 use Rattle.build_element.proofs.FirstElement.{brings-same, one-same}
 use Rattle.build_element.proofs.BestPart.{cost-is, best-none}
 use Rattle.shelf.specs.Types.{typesOf, typeCount, before, elementsOf}
@@ -62,8 +61,7 @@ module _ (s w : List ℕ) (f : frontFormed s ≡ true) (j : ℕ) (same : (i : �
     few : cost k (storedIn s t) (wantedIn s w t) (typeCount s t) silent ≤ 1
     few =
         let c = cost-is k (storedIn s t) (wantedIn s w t) (typeCount s t) silent in
-        let z = ap (λ d. num (d .select)) (silent-control k) in
-        omega (arith, c, z, at-most-one (λ i. not (brings k (controlOf k silent) (storedIn s t i) (wantedIn s w t i))) j (before s t) (typeCount s t) left)
+        omega (arith, c, at-most-one (λ i. not (brings k (controlOf k silent) (storedIn s t i) (wantedIn s w t i))) j (before s t) (typeCount s t) left)
 
     none-overall : overallIn s w t ≡ silent
     unfolding overallIn overallFor

@@ -1,7 +1,6 @@
 // The page, slot after slot.
 use crate::built::Built;
 use control_page::testing;
-use element::control::Control;
 use page::header;
 use page::slots;
 use page::slots::Slot;
@@ -43,7 +42,7 @@ fn row(shelf: &[u8], wanted: &[u8], at: Slot, overall: [u8; 4]) -> [u8; 4]
     let kind = at.kind;
     build_element::one(
         kind,
-        Control::of(kind, overall),
+        overall,
         elements::settings_at(shelf, at.first),
         build_overall::wanted_at(wanted, at.first),
     )

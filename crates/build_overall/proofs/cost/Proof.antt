@@ -2,29 +2,30 @@
 use mathlib.Core.Path.{_≡_}
 use Prim.Native.Nat.{_+_, _-_, _≤_}
 use native.Mathlib.Omega.{arith}
+use lib.ListN.{getD}
 use denote.Ref.{now}
 use borrow.Author.Needs.{needs}
 use Rattle.build_overall.proofs.Loops.{bool-small, counted, counted-none, counted-next, counted-all}
 use mir.Val.{Fits}
-use mir.Syntax.{w16}
+use mir.Syntax.{w8, w16}
 use mathlib.Core.Bool.{not}
 use Rattle.build_overall.proofs.cost.Statement.{statement}
 use Rattle.build_overall.proofs.cost.Tie as tie
 
 abbrev Inv-loop : tie.InvT-loop
-Inv-loop shelf wanted at kind control n₀ j₀ n j = (at .first ≤ j) × (j - at .first ≤ at .end - at .first) × (n ≤ 1 + j) × (n ≡ counted shelf wanted at control (j - at .first))
+Inv-loop shelf wanted at overall kind n₀ j₀ n j = (at .first ≤ j) × (j - at .first ≤ at .end - at .first) × (n ≤ 1 + j) × (n ≡ counted shelf wanted at overall (j - at .first))
 
 abbrev μ-loop : tie.MeasureT-loop
-μ-loop shelf wanted at kind control n₀ j₀ n j = at .end - j
+μ-loop shelf wanted at overall kind n₀ j₀ n j = at .end - j
 
-of-requires : tie.Need-of-requires Inv-loop μ-loop
-of-requires c κs = search needs
+array-read-n : tie.Need-array-read-n Inv-loop μ-loop
+array-read-n c = search needs
 
 cast-n : tie.Need-cast-n Inv-loop μ-loop
-cast-n c = search needs
+cast-n c = let s = c .before .before .args in let h : Fits w8 (getD (s .t4) 0 0) = search needs in omega (arith, h)
 
 loop-holds : tie.Need-loop-holds Inv-loop μ-loop
-loop-holds c = let s = c .before .before .before .before .args in (omega arith, omega arith, omega (arith, bool-small (c .before .of .result .select)), counted-none (now (s .shelf)) (now (s .wanted)) (s .at) (c .before .of .result))
+loop-holds c = let s = c .before .before .args in let h : Fits w8 (getD (s .t4) 0 0) = search needs in let k = counted-none (now (s .shelf)) (now (s .wanted)) (s .at) (s .t4) (omega (arith, h)) in (omega arith, omega arith, omega (arith, k .0), k .1)
 
 settings-at-requires : tie.Need-settings-at-requires Inv-loop μ-loop
 settings-at-requires c κs = search needs
@@ -48,10 +49,10 @@ loop-less : tie.Need-loop-less Inv-loop μ-loop
 loop-less c = omega arith
 
 loop-again : tie.Need-loop-again Inv-loop μ-loop
-loop-again c = let s = c .before .before .before .before .before .before .before .before .before .before .args in let l = c .before .before .before .before .before .loop in let t = c .before .before .before .if1 .taken in let b = bool-small (not (c .brings .result)) in (omega (arith, l .inv .0), omega (arith, l .inv .0, l .inv .1, t), omega (arith, l .inv .2, b), counted-next (now (s .shelf)) (now (s .wanted)) (s .at) (c .before .before .before .before .before .before .before .of .result) (l .j) (l .inv .0) (c .before .before .settings-at .ensures) (c .before .wanted-at .ensures) (c .brings .ensures) (l .inv .3))
+loop-again c = let s = c .before .before .before .before .before .before .before .before .args in let l = c .before .before .before .before .before .loop in let t = c .before .before .before .if1 .taken in let b = bool-small (not (c .brings .result)) in (omega (arith, l .inv .0), omega (arith, l .inv .0, l .inv .1, t), omega (arith, l .inv .2, b), counted-next (now (s .shelf)) (now (s .wanted)) (s .at) (s .t4) (l .j) (l .inv .0) (c .before .before .settings-at .ensures) (c .before .wanted-at .ensures) (c .brings .ensures) (l .inv .3))
 
 returns : tie.Need-returns Inv-loop μ-loop
-returns c = let s = c .before .before .before .before .before .before .before .args in let l = c .before .before .loop in counted-all (now (s .shelf)) (now (s .wanted)) (s .at) (c .before .before .before .before .of .result) (s .overall) (l .j - s .at .first) (c .before .before .before .before .of .ensures) (omega (arith, l .inv .0, l .inv .1, c .if1 .left)) (l .inv .3)
+returns c = let s = c .before .before .before .before .before .args in let l = c .before .before .loop in counted-all (now (s .shelf)) (now (s .wanted)) (s .at) (s .t4) (l .j - s .at .first) (omega (arith, l .inv .0, l .inv .1, c .if1 .left)) (l .inv .3)
 
 pub cost-spec : {M : Type 1} → statement M
 cost-spec =
@@ -59,7 +60,7 @@ cost-spec =
     (tie.spec
     Inv-loop
     μ-loop
-    of-requires
+    array-read-n
     cast-n
     loop-holds
     settings-at-requires

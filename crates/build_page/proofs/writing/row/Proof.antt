@@ -9,22 +9,19 @@ use Rattle.build_page.proofs.writing.row.Tie as tie
 returns : tie.Need-returns
 returns c = let s = c .before .before .before .args in row-overall (now (s .shelf)) (now (s .wanted)) (s .at) (s .overall) (c .if1 .taken)
 
-of-requires : tie.Need-of-requires
-of-requires c κs = search needs
-
 settings-at-requires : tie.Need-settings-at-requires
-settings-at-requires c κs = let q = c .before .before .before .before in omega (arith, q .pre .0 .0, q .pre .0 .1 (c .before .if1 .left))
+settings-at-requires c κs = let q = c .before .before .before in omega (arith, q .pre .0 .0, q .pre .0 .1 (c .if1 .left))
 
 wanted-at-requires : tie.Need-wanted-at-requires
-wanted-at-requires c κs = let q = c .before .before .before .before .before in omega (arith, q .pre .1, q .pre .0 .1 (c .before .before .if1 .left))
+wanted-at-requires c κs = let q = c .before .before .before .before in omega (arith, q .pre .1, q .pre .0 .1 (c .before .if1 .left))
 
 one-requires : tie.Need-one-requires
 one-requires c κs = search needs
 
 returns-2 : tie.Need-returns-2
-returns-2 c = let s = c .before .before .before .before .before .before .before .args in row-own (now (s .shelf)) (now (s .wanted)) (s .at) (s .overall) (c .before .before .before .before .if1 .left) (c .before .before .before .of .ensures) (c .before .before .settings-at .ensures) (c .before .wanted-at .ensures) (c .one .ensures)
+returns-2 c = let s = c .before .before .before .before .before .before .args in row-own (now (s .shelf)) (now (s .wanted)) (s .at) (s .overall) (c .before .before .before .if1 .left) (c .before .before .settings-at .ensures) (c .before .wanted-at .ensures) (c .one .ensures)
 
 pub row-spec : {M : Type 1} → statement M
 row-spec =
     tie.close
-    (tie.spec returns of-requires settings-at-requires wanted-at-requires one-requires returns-2)
+    (tie.spec returns settings-at-requires wanted-at-requires one-requires returns-2)

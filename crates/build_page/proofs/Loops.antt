@@ -5,9 +5,15 @@ use mathlib.Core.List.{List}
 use Prim.Native.Nat.{ℕ, zero, suc, _+_, _*_, _-_, _/_, _<_, _≤_}
 use native.Mathlib.Numerals.{add-one}
 use native.Mathlib.Omega.{arith}
+use mir.Val.{Fits}
+use mir.Syntax.{w8}
 use lib.Dec.{ltb}
 use lib.ListN.{length, getD}
 use borrow.Author.Tests.{eqb-true, eqb-false, eq-eqb, le-ltb, ltb-true, ltb-false}
+use Rattle.bits.specs.Numbers.{big, bytes}
+use Rattle.bits.specs.Places.{fourAt}
+use Rattle.bits.proofs.Widths.{bytes-big}
+use Rattle.bits.proofs.Rows.{as-four}
 use Rattle.bits.specs.Choice.{pick, allBelow}
 use Rattle.bits.proofs.Logic.{by-case, pick-yes, pick-no, below-all, below-fails, below-next, fails, first-none}
 use Rattle.element.specs.declared.types.Kind.{Kind}
@@ -53,14 +59,31 @@ module _ (f : ℕ → Bool) (n j : ℕ) where
 
 -- the four bytes of a slot
 module _ (s w : List ℕ) (at : Slot) (o : List ℕ) where
-  pub row-overall : at .overall ≡ true → o ≡ rowUnder s w at o
+  pub row-overall : {p : List ℕ} → at .overall ≡ true → p ≡ o → p ≡ rowUnder s w at o
   unfolding rowUnder
-  row-overall t = sym (pick-yes _ _ _ t)
+  row-overall t h = h ∙ sym (pick-yes _ _ _ t)
 
-  pub row-own : {e x y : List ℕ} → at .overall ≡ false → e ≡ settingsAt s (at .first) → x ≡ settingsIn w (at .first) → y ≡ one (at .kind) (controlOf (at .kind) o) e x
-      → y ≡ rowUnder s w at o
+  pub row-own : {e x y p : List ℕ} → at .overall ≡ false → p ≡ o → e ≡ settingsAt s (at .first) → x ≡ settingsIn w (at .first)
+      → y ≡ one (at .kind) (controlOf (at .kind) p) e x → y ≡ rowUnder s w at o
   unfolding rowUnder
-  row-own t he hx h = h ∙ rw (t, he, hx)
+  row-own t hp he hx h = h ∙ rw (t, hp, he, hx)
+
+fits-small : {n : ℕ} → Fits w8 n → n < 256
+fits-small h = omega arith
+
+-- the overall element, as the number that its bytes say
+module _ (s w : List ℕ) (at : Slot) (m : ℕ) where
+  pub number-found : {o : List ℕ} {n : ℕ} → at .overall ≡ true → length o ≡ 4 → Fits w8 (getD o 0 0) → Fits w8 (getD o 1 0) → Fits w8 (getD o 2 0) → Fits w8 (getD o 3 0)
+      → o ≡ overallOf s w at → n ≡ big (fourAt o 0) → bytes 4 n ≡ pick (at .overall) (overallOf s w at) (bytes 4 m)
+  number-found {o} t l a b c d h e =
+      ap (bytes 4) e
+      ∙ bytes-big (fourAt o 0) (fits-small a, (fits-small b, (fits-small c, (fits-small d, tt))))
+      ∙ sym (as-four o l)
+      ∙ h
+      ∙ sym (pick-yes _ _ _ t)
+
+  pub number-stands : at .overall ≡ false → bytes 4 m ≡ pick (at .overall) (overallOf s w at) (bytes 4 m)
+  number-stands t = sym (pick-no _ _ _ t)
 
 module _ (s : List ℕ) where
   -- past the last type

@@ -11,6 +11,7 @@ ghost use mathlib.Core.Bool.{true};
 ghost use Prim.Native.Nat.{_*_, _≤_};
 ghost use lib.ListN.{length};
 ghost use Rattle.bits.specs.Choice.{pick};
+ghost use Rattle.bits.specs.Numbers.{bytes};
 ghost use Rattle.shelf.specs.Types.{elementsOf};
 ghost use Rattle.shelf_formed.specs.Formed.{wellFormed};
 ghost use Rattle.build_overall.specs.Choice.{HasWishes, overallOf};
@@ -19,30 +20,44 @@ ghost use Rattle.page.specs.Header.{HasPage};
 ghost use Rattle.build_page.specs.Outcome.{builtOf, leftBy};
 ghost use Rattle.build_page.specs.Page.{rowUnder, rowFor, selectsFor, controlPage};
 
-// The overall element that stands from this slot on.
-fn overall(shelf: &[u8], wanted: &[u8], at: Slot, standing: [u8; 4]) -> [u8; 4]
+// The four bytes of a number.
+fn four_of(n: u32) -> [u8; 4]
+    ensures { λ r. ⌜ r ≡ bytes 4 n ⌝ }
+{
+    [
+        (n / 256 / 256 / 256 % 256) as u8,
+        (n / 256 / 256 % 256) as u8,
+        (n / 256 % 256) as u8,
+        (n % 256) as u8,
+    ]
+}
+
+// The overall element that stands from this slot on, as the number that its bytes say: so one register carries it.
+fn overall(shelf: &[u8], wanted: &[u8], at: Slot, standing: u32) -> u32
     requires { ⌜ HasWishes (now shelf) (now wanted) at ⌝ }
-    ensures { λ r. ⌜ r ≡ pick (at .overall) (overallOf (now (shelf .entry)) (now (wanted .entry)) at) standing ⌝ }
+    ensures { λ r. ⌜ bytes 4 r ≡ pick (at .overall) (overallOf (now (shelf .entry)) (now (wanted .entry)) at) (bytes 4 standing) ⌝ }
 {
     if at.overall {
-        build_overall::overall(shelf, wanted, at)
+        let best = build_overall::overall(shelf, wanted, at);
+        bits::big32_at(&best, 0)
     } else {
         standing
     }
 }
 
 // The four bytes of a slot, where this is the overall element of its type.
-fn row(shelf: &[u8], wanted: &[u8], at: Slot, overall: [u8; 4]) -> [u8; 4]
+fn row(shelf: &[u8], wanted: &[u8], at: Slot, overall: u32) -> [u8; 4]
     requires { ⌜ HasWishes (now shelf) (now wanted) at ⌝ }
-    ensures { λ r. ⌜ r ≡ rowUnder (now (shelf .entry)) (now (wanted .entry)) at overall ⌝ }
+    ensures { λ r. ⌜ r ≡ rowUnder (now (shelf .entry)) (now (wanted .entry)) at (bytes 4 overall) ⌝ }
 {
+    let over = four_of(overall);
     if at.overall {
-        return overall;
+        return over;
     }
     let kind = at.kind;
     build_element::one(
         kind,
-        overall,
+        over,
         elements::settings_at(shelf, at.first),
         build_overall::wanted_at(wanted, at.first),
     )
@@ -58,7 +73,7 @@ fn put_slots(shelf: &[u8], wanted: &[u8], out: &mut [u8], n: u16) -> u32
     ensures { λ _. ⌜ now (out .exit) ≡ slotsPut (rowFor (now (shelf .entry)) (now (wanted .entry))) (now (out .entry)) n ⌝ }
 {
     let mut sum: u32 = 0;
-    let mut over = build_element::SILENT;
+    let mut over: u32 = 0;
     let mut run = slots::first_run();
     let mut i: u16 = 0;
     while i < n {

@@ -5,6 +5,7 @@ use native.Mathlib.Omega.{arith}
 use denote.Ref.{now}
 use borrow.Author.Needs.{needs}
 use Rattle.shelf_formed.proofs.ElementTypes.{front-formed}
+use Rattle.bits.specs.Numbers.{bytes}
 use Rattle.page.specs.Slots.{slotPlace, slotsPut, slotCarried}
 use Rattle.page.proofs.SlotBounds.{shelf-there}
 use Rattle.page.proofs.SlotWalk.{run-stands, slot-walked, walk-on}
@@ -15,7 +16,7 @@ use Rattle.build_page.proofs.writing.put_slots.Statement.{statement}
 use Rattle.build_page.proofs.writing.put_slots.Tie as tie
 
 abbrev Inv-loop : tie.InvT-loop
-Inv-loop shelf wanted out₀ n sum₀ over₀ run₀ i₀ out sum over run i = (i ≤ n) × (sum ≤ i) × (over ≡ standing shelf wanted i) × (sum ≡ selectsFor shelf wanted i) × (out ≡ slotsPut (rowFor shelf wanted) out₀ i) × (run ≡ slotCarried shelf i) × (n ≤ 65535)
+Inv-loop shelf wanted out₀ n sum₀ over₀ run₀ i₀ out sum over run i = (i ≤ n) × (sum ≤ i) × (bytes 4 over ≡ standing shelf wanted i) × (sum ≡ selectsFor shelf wanted i) × (out ≡ slotsPut (rowFor shelf wanted) out₀ i) × (run ≡ slotCarried shelf i) × (n ≤ 65535)
 
 abbrev μ-loop : tie.MeasureT-loop
 μ-loop shelf wanted out₀ n sum₀ over₀ run₀ i₀ out sum over run i = n - i
@@ -60,7 +61,19 @@ loop-less : tie.Need-loop-less Inv-loop μ-loop
 loop-less c = omega arith
 
 loop-again : tie.Need-loop-again Inv-loop μ-loop
-loop-again c = let s = c .before .before .before .before .before .before .before .before .before .before .before .before .before .before .before .args in let l = c .before .before .before .before .before .before .before .before .before .before .loop in let r = row-next (now (s .shelf)) (now (s .wanted)) (l .i) (slot-walked (now (s .shelf)) (l .i) (c .before .before .before .before .before .before .before .before .run-to .ensures) (c .before .before .before .before .before .before .before .slot-in .ensures)) (l .inv .2) (c .before .before .before .before .before .before .overall .ensures) (c .before .before .before .before .before .row .ensures) in let k = row-counts (now (s .shelf)) (now (s .wanted)) (l .i) (r .1) in (omega (arith, c .before .before .before .before .before .before .before .before .before .loop-test .taken), omega (arith, k .1, l .inv .1), r .0, count-next (now (s .shelf)) (now (s .wanted)) (l .i) (l .inv .3) (r .1), fours-next slotPlace (rowFor (now (s .shelf)) (now (s .wanted))) (now (s .out)) (l .i) (l .inv .4) (c .before .before .before .slot-place .ensures) (r .1) (c .before .before .put-four .ensures), walk-on (now (s .shelf)) (l .i) (c .before .before .before .before .before .before .before .before .run-to .ensures), l .inv .6)
+loop-again c =
+    let s = c .before .before .before .before .before .before .before .before .before .before .before .before .before .before .before .args in
+    let l = c .before .before .before .before .before .before .before .before .before .before .loop in
+    let r = row-next (now (s .shelf)) (now (s .wanted)) (l .i) (slot-walked (now (s .shelf)) (l .i) (c .before .before .before .before .before .before .before .before .run-to .ensures) (c .before .before .before .before .before .before .before .slot-in .ensures)) (l .inv .2) (c .before .before .before .before .before .before .overall .ensures) (c .before .before .before .before .before .row .ensures) in
+    let k = row-counts (now (s .shelf)) (now (s .wanted)) (l .i) (r .1) in (
+      omega (arith, c .before .before .before .before .before .before .before .before .before .loop-test .taken),
+      omega (arith, k .1, l .inv .1),
+      r .0,
+      count-next (now (s .shelf)) (now (s .wanted)) (l .i) (l .inv .3) (r .1),
+      fours-next slotPlace (rowFor (now (s .shelf)) (now (s .wanted))) (now (s .out)) (l .i) (l .inv .4) (c .before .before .before .slot-place .ensures) (r .1) (c .before .before .put-four .ensures),
+      walk-on (now (s .shelf)) (l .i) (c .before .before .before .before .before .before .before .before .run-to .ensures),
+      l .inv .6,
+    )
 
 same-length : tie.Need-same-length Inv-loop μ-loop
 same-length c = let s = c .before .before .before .before .before .before .args in fours-length slotPlace (rowFor (now (s .shelf)) (now (s .wanted))) (now (s .out)) (c .before .loop .i) (c .before .loop .inv .4)

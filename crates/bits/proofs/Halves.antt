@@ -6,7 +6,7 @@ use Prim.Native.Nat.{ℕ, _*_, _/_, _%_, _^_, _<_, _≤_}
 use native.Mathlib.Omega.{arith}
 use lib.Dec.{eqb}
 use lib.Bits.{bitAnd, bitOr, and-mask, or-shifted}
-use borrow.Author.Tests.{ne-eqb, eqb-true}
+use borrow.Author.Tests.{eqb-true}
 use mir.Val.{Fits, boolByte}
 use mir.Syntax.{w8}
 use Rattle.bits.specs.Choice.{allBelow}
@@ -20,9 +20,6 @@ mask m ks t = byByte (λ b. eqb (bitAnd b m) 0) (only ks) t
 
 pub and1 : (n : ℕ) → bitAnd n 1 ≡ n % 2
 and1 n = and-mask n 1
-
-pub and7 : (n : ℕ) → bitAnd n 7 ≡ n % 8
-and7 n = and-mask n 3
 
 pub and15 : (n : ℕ) → bitAnd n 15 ≡ n % 16
 and15 n = and-mask n 4
@@ -93,16 +90,6 @@ join-high h l = (
   bit-same 4 0 (join h l) h (omega arith),
 )
 
--- bits 3 to 0 are those of its low half
-pub join-low : (h l : ℕ)
-    → let x : ℕ = join h l in (bit 3 x ≡ bit 3 l) × (bit 2 x ≡ bit 2 l) × (bit 1 x ≡ bit 1 l) × (bit 0 x ≡ bit 0 l)
-join-low h l = (
-  bit-same 3 3 (join h l) l (omega arith),
-  bit-same 2 2 (join h l) l (omega arith),
-  bit-same 1 1 (join h l) l (omega arith),
-  bit-same 0 0 (join h l) l (omega arith),
-)
-
 -- four flags joined with a low half are read back
 pub flags-high : (a b c d : Bool) (l : ℕ)
     → let x : ℕ = join (nibble a b c d) l in (bit 7 x ≡ a) × (bit 6 x ≡ b) × (bit 5 x ≡ c) × (bit 4 x ≡ d)
@@ -110,24 +97,7 @@ flags-high a b c d l =
     let j = join-high (nibble a b c d) l in
     let n = nibble-bits a b c d in (j .0 ∙ n .0, j .1 ∙ n .1, j .2 ∙ n .2, j .3 ∙ n .3)
 
--- and so are those joined with a high half
-pub flags-low : (h : ℕ) (a b c d : Bool)
-    → let x : ℕ = join h (nibble a b c d) in (bit 3 x ≡ a) × (bit 2 x ≡ b) × (bit 1 x ≡ c) × (bit 0 x ≡ d)
-flags-low h a b c d =
-    let j = join-low h (nibble a b c d) in
-    let n = nibble-bits a b c d in (j .0 ∙ n .0, j .1 ∙ n .1, j .2 ∙ n .2, j .3 ∙ n .3)
-
-pub join-mod16 : (h l : ℕ) → join h l % 16 ≡ l % 16
-join-mod16 h l = omega arith
-
 -- a byte with no bit but these is what f makes of it, where antt finds it so on every byte
 pub again-byte : (ks : List ℕ) (f : ℕ → ℕ) → allBelow (λ b. implies (only ks b) (eqb (f b) b)) 256 ≡ true
     → (b : ℕ) → b < 256 → only ks b ≡ true → f b ≡ b
 again-byte ks f t b h e = eqb-true (f b) b (byByteIf (only ks) (λ b. eqb (f b) b) t b h e)
-
--- three bits as the low half are read back, and have no fourth
-pub join-three : (h n : ℕ) → join h (n % 8) % 8 ≡ n % 8
-join-three h n = omega arith
-
-pub low-three : (n : ℕ) → bit 3 (n % 8) ≡ false
-low-three n = ne-eqb (n % 8 / 8 % 2) 1 (λ e. omega arith)

@@ -1,15 +1,12 @@
 -- One turn of each loop that sums or writes, and what calls that write come to together. Assumes nothing.
 use mathlib.Core.Path.{_≡_, refl, sym, ap, _∙_}
-use mathlib.Core.Bool.{Bool, true, false}
-use mathlib.Core.List.{List, [], _∷_, _++_}
+use mathlib.Core.List.{List, [], _∷_}
 use Prim.Native.Nat.{ℕ, _+_, _/_, _%_}
 use native.Mathlib.Numerals.{add-one}
 use native.Mathlib.Omega.{arith}
-use lib.Dec.{leb}
-use lib.ListN.{length, take, drop, length-append, length-drop}
-use lib.Seq.{length-take-le, take-all}
-use borrow.Author.Tests.{leb-true}
-use Rattle.bits.specs.Choice.{pick, sumBelow}
+use lib.ListN.{length}
+use lib.Seq.{take-all}
+use Rattle.bits.specs.Choice.{sumBelow}
 use Rattle.bits.specs.Places.{fourAt, putFour}
 use Rattle.bits.specs.Rows.{joined, bytesAt, putBytes}
 use Rattle.bits.proofs.FourPut.{length-put}

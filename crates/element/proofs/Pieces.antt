@@ -1,19 +1,13 @@
 -- Bytes cut into pieces: fields that were put are read back, and bytes without a reserved bit are put together again. Assumes nothing.
 use mathlib.Core.Path.{_≡_, refl, sym, ap, _∙_}
-use mathlib.Core.Bool.{Bool, true, _&&_}
 use mathlib.Core.List.{List, [], _∷_, _++_}
 use Prim.Native.Nat.{ℕ, zero, suc, _+_, _-_, _*_, _/_, _%_, _^_, _<_, _≤_}
 use native.Mathlib.Nat.{mod-lt, mod-eq-of-lt, mul-assoc, add-mul, add-assoc, mod-mod, zero-mul, zero-add, suc-add}
 use native.Mathlib.Omega.{arith}
 use lib.Arith.{digits-lt}
-use lib.Dec.{leb, eqb}
 use lib.ListN.{length, getD}
 use lib.Pow.{pow-add, high, low, lt-of-le-ones, le-ones, pow-pos}
-use borrow.Author.Tests.{eqb-true, le-leb, leb-true}
-use Rattle.bits.specs.Choice.{allBelow}
-use Rattle.bits.specs.Bits.{within}
-use Rattle.bits.proofs.Logic.{below-at, implies, implied}
-use Rattle.element.specs.StatusLayout.{Piece, field, reserved, size, count, fieldMask, mostIn, fieldsIn, byteFrom, padded}
+use Rattle.element.specs.StatusLayout.{Piece, field, reserved, size, count, mostIn, fieldsIn, byteFrom, padded}
 
 -- the fields of v from the i-th on, as far as the pieces hold them
 abbrev pub cutIn : List Piece → List ℕ → ℕ → List ℕ

@@ -1,21 +1,21 @@
 -- Settings and the four bytes that store them say the same, each way round, under any layout whose masks are sound. Assumes nothing.
-use mathlib.Core.Path.{_≡_, refl, sym, ap, _∙_}
-use mathlib.Core.Bool.{Bool, true, false, not, _&&_, _||_}
+use mathlib.Core.Path.{_≡_, refl, ap, _∙_}
+use mathlib.Core.Bool.{Bool, true, false, not, _||_}
 use mathlib.Core.List.{List, [], _∷_}
 use Prim.Native.Nat.{ℕ, _<_}
 use lib.Bits.{bitAnd, bitOr}
 use lib.Dec.{eqb, leb}
-use lib.ListN.{length, getD}
-use borrow.Author.Tests.{eqb-true, eq-eqb, not-true}
+use lib.ListN.{getD}
+use borrow.Author.Tests.{eqb-true, not-true}
 use Rattle.bits.specs.Choice.{pick}
 use Rattle.bits.specs.Bits.{bit, within, only, nibble, join}
 use Rattle.bits.proofs.Logic.{and-both, and-five}
 use Rattle.bits.proofs.Halves.{flags-high, again-byte}
 use Rattle.element.specs.declared.layout.Layout.{Layout}
 use Rattle.element.specs.declared.settings.Settings.{Settings}
-use Rattle.element.specs.Layouts.{said, stored, formed, unnamed}
+use Rattle.element.specs.Layouts.{said, stored, formed}
 use Rattle.element.specs.Control.{speedAfter, acted}
-use Rattle.element.proofs.Flags.{keeps, mixes, splits, kept-twice, kept-within, kept-small, code-small, mix-flags, mix-speed, mix-within, split-again}
+use Rattle.element.proofs.Flags.{keeps, mixes, splits, kept-twice, kept-within, mix-flags, mix-speed, mix-within, split-again}
 
 pub four : {a b c d p q r s : ℕ} → a ≡ p → b ≡ q → c ≡ r → d ≡ s → _≡_ {A = List ℕ} (a ∷ b ∷ c ∷ d ∷ []) (p ∷ q ∷ r ∷ s ∷ [])
 four x y z w = λ i. x i ∷ y i ∷ z i ∷ w i ∷ []

@@ -5,14 +5,13 @@ use mathlib.Core.Bool.{true}
 use mathlib.Core.List.{List, [], _∷_, _++_, append-assoc, append-nil}
 use Prim.Native.Nat.{ℕ, _+_, _^_, _<_, _≤_}
 use native.Mathlib.Nat.{add-zero}
-use native.Mathlib.Omega.{arith}
-use lib.Dec.{eqb, leb}
+use lib.Dec.{eqb}
 use lib.ListN.{length, getD, length-append}
-use borrow.Author.Tests.{eqb-true, le-leb}
+use borrow.Author.Tests.{eqb-true}
 use Rattle.bits.specs.Choice.{allBelow}
 use Rattle.bits.specs.Bits.{within}
-use Rattle.bits.proofs.Logic.{below-at, below-all, implies, implied}
-use Rattle.element.specs.StatusLayout.{Piece, StatusLayout, size, count, fieldMask, mostIn, fieldsIn, byteFrom, padded, twelve, three, mostOf, holds}
+use Rattle.bits.proofs.Logic.{below-at, implies, implied}
+use Rattle.element.specs.StatusLayout.{Piece, StatusLayout, size, count, fieldMask, mostIn, fieldsIn, byteFrom, padded, twelve, three, mostOf}
 use Rattle.element.proofs.Pieces.{cutIn, AllLe, byte-small, fields-cut, byte-behind, cut-behind, byte-front, byte-cut, fields-count, pad-append, fields-le, append-le, padded-le, parts}
 
 -- the pieces of a byte: eight bits in all; no bit but those of fields gives the byte again, and fields make no other bit, as antt finds by

@@ -1,26 +1,25 @@
 -- Status elements of an element of any type, and the entries that say the same, from the facts of its rules. Assumes nothing.
 use mathlib.Core.Path.{_≡_, refl, sym, ap, _∙_}
-use mathlib.Core.Bool.{Bool, true, false, _&&_}
+use mathlib.Core.Bool.{true}
 use mathlib.Core.List.{List, [], _∷_, _++_}
 use Prim.Native.Nat.{ℕ, zero, suc, _+_, _*_, _/_, _%_, _<_, _≤_}
 use native.Mathlib.Nat.{mod-eq-of-lt}
 use native.Mathlib.Omega.{arith}
 use lib.Bits.{and-mask}
-use lib.Dec.{eqb, leb}
+use lib.Dec.{eqb}
 use lib.ListN.{length, getD, replicate}
 use borrow.Author.Tests.{eqb-true, eq-eqb, leb-true, le-leb}
-use Rattle.bits.specs.Choice.{allBelow}
 use Rattle.bits.specs.Bits.{num, within, only}
-use Rattle.bits.proofs.Logic.{and-left, and-right, and-both, all-four, four-pass, first-small, below-at, below-all, byByteIf, implies}
+use Rattle.bits.proofs.Logic.{and-right, and-both, all-four, four-pass, first-small, below-all, byByteIf}
 use Rattle.bits.proofs.Halves.{num-small}
 use Rattle.element.specs.declared.types.Kind.{Kind}
 use Rattle.element.specs.declared.settings.Settings.{Settings}
 use Rattle.element.specs.declared.verdict.Verdict.{Verdict}
-use Rattle.element.specs.StatusLayout.{StatusLayout, fieldMask, fieldsIn, padded, twelve, mostOf, holds, fit}
+use Rattle.element.specs.StatusLayout.{StatusLayout, fieldMask, fieldsIn, padded, twelve, holds, fit}
 use Rattle.element.specs.Rules.{codeAllowed, firstClear, unshown}
 use Rattle.element.specs.Types.{rulesOf, layoutOf, readingAllowed, verdictOf}
-use Rattle.element.specs.Status.{headOf, firstByte, entryIn, bytesIn, entryWith, entryOf, statusBytes, entryBy, shownBy, statusOffending, mostShown, overallOffending, codeAlone, mostOverall}
-use Rattle.element.proofs.StatusBothWays.{Lays, byte-clear, ofTwelve, three-behind, bytes-again, twelve-fit, twelve-back}
+use Rattle.element.specs.Status.{headOf, firstByte, entryOf, statusBytes, entryBy, shownBy, statusOffending, mostShown, overallOffending, codeAlone, mostOverall}
+use Rattle.element.proofs.StatusBothWays.{byte-clear, three-behind, bytes-again, twelve-fit, twelve-back}
 use Rattle.element.proofs.StoredSettings.{Storable}
 use Rattle.element.proofs.TypeFacts.{facts}
 

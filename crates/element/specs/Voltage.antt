@@ -2,7 +2,6 @@
 use mathlib.Core.Bool.{true, _&&_}
 use mathlib.Core.List.{List, [], _∷_}
 use Prim.Native.Nat.{ℕ, _/_, _%_}
-use lib.Dec.{eqb, leb}
 use lib.ListN.{getD}
 use Rattle.bits.specs.Bits.{num}
 use Rattle.element.specs.declared.settings.Settings.{Settings}

@@ -12,8 +12,8 @@ use Rattle.bits.specs.Rows.{joined, bytesAt}
 use Rattle.bits.proofs.Logic.{by-case, pick-yes, pick-no}
 use Rattle.bits.proofs.Rows.{length-joined, bytes-there}
 use Rattle.element.specs.declared.types.Kind.{Kind}
-use Rattle.element.specs.declared.types.Kind.the-variants.{Cooling, Temperature, Voltage, Current}
 use Rattle.element.specs.Types.{had, ordered}
+use Rattle.element.proofs.TypeThresholds.{zeros-had, zeros-ordered}
 use Rattle.refusals.specs.declared.Answer.the-variants.{Accepted}
 use Rattle.shelf.specs.Limits.{mostTypes, mostElements}
 use Rattle.shelf.specs.Elements.{thresholdsAt}
@@ -37,24 +37,10 @@ use Rattle.threshold_rows.proofs.RowTests.{Fine, fine-rows}
 abbrev fourZeros : List ℕ
 fourZeros = 0 ∷ 0 ∷ 0 ∷ 0 ∷ []
 
--- four zeros pass every test
+-- four zeros are not set
 zeros-clear : firstSet fourZeros ≡ 4
 unfolding firstSet
 zeros-clear = refl
-
-zeros-had : (k : Kind) → had k fourZeros ≡ true
-unfolding had
-zeros-had Cooling = refl
-zeros-had Temperature = refl
-zeros-had Voltage = refl
-zeros-had Current = refl
-
-zeros-ordered : (k : Kind) → ordered k fourZeros ≡ true
-unfolding ordered
-zeros-ordered Cooling = refl
-zeros-ordered Temperature = refl
-zeros-ordered Voltage = refl
-zeros-ordered Current = refl
 
 module _ (s : List ℕ) (w : wellFormed s ≡ true) where
   f : frontFormed s ≡ true

@@ -47,7 +47,7 @@ pub const LONGEST_WANTED_LIST: usize = 4 * MOST_ELEMENTS as usize;
 pub const LONGEST_SLOT_PAGE: usize = 8 + 4 * MOST_SLOTS as usize;
 
 // Its head, and for each type a header of four bytes and a text.
-pub const LONGEST_CONFIGURATION_PAGE: usize = 48 + TYPE_SIZE as usize * MOST_TYPES as usize;
+pub const LONGEST_CONFIGURATION_PAGE: usize = 48 + (4 + MOST_TEXT as usize) * MOST_TYPES as usize;
 
 pub fn type_place(t: u16) -> u32
     ensures { λ r. ⌜ r ≡ typePlace t ⌝ }

@@ -55,11 +55,27 @@ static inline const char *ses_meaning(uint8_t number)
     }
 }
 
-/* The front of a shelf block, without its elements: what a configuration page tells. */
-#define SES_CONFIGURATION_LENGTH 332
+/* The most that a shelf has: types, elements in all, bytes of a type's text, and slots of a page, one for each
+ * type (its overall element) and one for each element. */
+#define SES_MOST_TYPES 8
+#define SES_MOST_ELEMENTS 64
+#define SES_MOST_TEXT 32
+#define SES_MOST_SLOTS (SES_MOST_TYPES + SES_MOST_ELEMENTS)
 
-/* For each type one overall element, and all individual elements. */
-#define SES_MOST_ENTRIES 72
+/* The front of a shelf block, without its elements: what a configuration page tells. */
+#define SES_TYPE_LENGTH (4 + SES_MOST_TEXT)
+#define SES_CONFIGURATION_LENGTH (44 + SES_TYPE_LENGTH * SES_MOST_TYPES)
+
+/* Then its elements. Each starts with its settings, which have the form of a record in a wanted list. */
+#define SES_FIRST_ELEMENT SES_CONFIGURATION_LENGTH
+#define SES_ELEMENT_LENGTH 16
+#define SES_SETTINGS_LENGTH 4
+#define SES_LONGEST_BLOCK (SES_FIRST_ELEMENT + SES_ELEMENT_LENGTH * SES_MOST_ELEMENTS)
+#define SES_LONGEST_WANTED_LIST (SES_SETTINGS_LENGTH * SES_MOST_ELEMENTS)
+
+/* A status, control or threshold page (02h, 05h); and a configuration page (01h), which may be longer. */
+#define SES_LONGEST_PAGE (8 + 4 * SES_MOST_SLOTS)
+#define SES_LONGEST_CONFIGURATION_PAGE (48 + (4 + SES_MOST_TEXT) * SES_MOST_TYPES)
 
 /* What a status element shows, field by field. An entry has four bytes that all types have and twelve that
  * its type lays out: the fields of bytes 1 to 3 of the element in page order, then zeros. Flags are 0 or 1; a
@@ -97,7 +113,7 @@ struct ses_shown {
 struct ses_status {
     uint8_t noncritical, critical;
     uint8_t entries[2];
-    struct ses_shown entry[SES_MOST_ENTRIES];
+    struct ses_shown entry[SES_MOST_SLOTS];
 };
 
 /* A threshold status page, its entries in the same order. Each is high critical, high warning, low
@@ -105,7 +121,7 @@ struct ses_status {
 struct ses_thresholds {
     uint8_t spare[2];
     uint8_t entries[2];
-    uint8_t entry[SES_MOST_ENTRIES][4];
+    uint8_t entry[SES_MOST_SLOTS][4];
 };
 
 /* Is the block a well-formed shelf?  0, or 1 (SES_SHELF_NOT_WELL_FORMED). */

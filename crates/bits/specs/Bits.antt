@@ -1,9 +1,9 @@
--- The bits of one byte, 7 the highest and 0 the lowest. Assumes nothing.
-use mathlib.Core.Bool.{Bool, true, false}
+-- The bits of one byte, 7 the highest and 0 the lowest; which bytes a text may have. Assumes nothing.
+use mathlib.Core.Bool.{Bool, true, false, _&&_}
 use mathlib.Core.List.{List, [], _∷_}
 use Prim.Native.Nat.{ℕ, _+_, _*_, _/_, _%_, _^_}
 use lib.Bits.{bitAnd}
-use lib.Dec.{eqb}
+use lib.Dec.{eqb, leb}
 
 -- 1 for true and 0 for false
 abbrev pub num : Bool → ℕ
@@ -37,3 +37,7 @@ nibble a b c d = 8 * num a + 4 * num b + 2 * num c + num d
 -- a byte of its two halves
 abbrev pub join : ℕ → ℕ → ℕ
 join high low = 16 * (high % 16) + low % 16
+
+-- a byte that a text may have
+abbrev pub printable : ℕ → Bool
+printable b = leb 0x20 b && leb b 0x7e

@@ -5,7 +5,7 @@ ghost use mathlib.Core.Path.{_≡_};
 ghost use Prim.Native.Nat.{_+_, _*_, _<_, _≤_};
 ghost use lib.ListN.{getD, length};
 ghost use Rattle.bits.specs.Choice.{firstOf};
-ghost use Rattle.bits.specs.Bits.{nibble, join};
+ghost use Rattle.bits.specs.Bits.{nibble, join, printable};
 ghost use Rattle.bits.specs.Places.{fourAt, putFour, twoAt};
 ghost use Rattle.bits.specs.Numbers.{big};
 ghost use Rattle.bits.specs.Rows.{bytesAt, putBytes};
@@ -22,6 +22,13 @@ pub fn join(high: u8, low: u8) -> u8
     ensures { λ r. ⌜ r ≡ join high low ⌝ }
 {
     (high & 15) << 4 | low & 15
+}
+
+// Whether a text may have the byte.
+pub fn is_printable(b: u8) -> bool
+    ensures { λ r. ⌜ r ≡ printable b ⌝ }
+{
+    (0x20 <= b) & (b <= 0x7e)
 }
 
 // The first of four that does not hold; 4 if all do.

@@ -7,6 +7,7 @@ use native.Mathlib.Omega.{arith}
 use lib.Dec.{leb}
 use lib.ListN.{length, getD}
 use borrow.Author.Tests.{eqb-true, not-false}
+use Rattle.bits.specs.Bits.{printable}
 use Rattle.bits.proofs.Logic.{and-left, and-right, first-fails}
 use Rattle.element.specs.Types.{served}
 use Rattle.refusals.specs.declared.Answer.the-variants.{Accepted}
@@ -90,6 +91,6 @@ module _ (p : List ℕ) (a : configurationRead p ≡ Accepted) where
     text-short = not-false _ (header-fine 3 (omega arith))
 
   -- the texts
-  pub text-passed : (k : ℕ) → headerPlace (typesOn p) ≤ k → k < length p → leb 0x20 (getD p k 0) && leb (getD p k 0) 0x7e ≡ true
+  pub text-passed : (k : ℕ) → headerPlace (typesOn p) ≤ k → k < length p → printable (getD p k 0) ≡ true
   unfolding textOffends
   text-passed k h l = not-false _ (sym (text-at p k h) ∙ fine k l)

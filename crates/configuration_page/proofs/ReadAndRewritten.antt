@@ -8,6 +8,7 @@ use native.Mathlib.Omega.{arith}
 use lib.Dec.{eqb, leb, ltb}
 use lib.ListN.{length, getD}
 use borrow.Author.Tests.{leb-true, le-leb, lt-ltb, le-ltb, ltb-true, ltb-false, eq-eqb, eqb-true}
+use Rattle.bits.specs.Bits.{printable}
 use Rattle.bits.specs.Choice.{sumBelow}
 use Rattle.bits.specs.Numbers.{big, bytes, Bytes}
 use Rattle.bits.specs.Places.{twoAt, fourAt}
@@ -87,7 +88,7 @@ module _ (p : List ℕ) (a : configurationRead p ≡ Accepted) where
         by-case (ltb i (textLength c t))
         (λ e.
         let m : i < headerByte p 3 t = rw told-length at (ltb-true i (textLength c t) e) in
-        pick-yes _ _ _ e ∙ ap (λ (b : ℕ). leb 0x20 b && leb b 0x7e) (told-text i m) ∙ text-passed p a (textPlaceOn p t + i) (after-headers i) (on-page i m))
+        pick-yes _ _ _ e ∙ ap printable (told-text i m) ∙ text-passed p a (textPlaceOn p t + i) (after-headers i) (on-page i m))
         (λ e.
         let m : headerByte p 3 t ≤ i = rw told-length at (ltb-false i (textLength c t) e) in
         pick-no _ _ _ e ∙ ap isZero (handed-text p t below i l ∙ pick-no _ _ _ (le-ltb i (toldByte p 3 t) (rw (told-byte p t 3 h) m))))

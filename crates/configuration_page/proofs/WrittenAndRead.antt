@@ -10,6 +10,7 @@ use lib.Dec.{eqb, leb, ltb}
 use lib.ListN.{length, getD, take}
 use lib.Seq.{take-all}
 use borrow.Author.Tests.{le-leb, le-ltb, ltb-true, ltb-false, eq-eqb, eqb-true, eqb-false}
+use Rattle.bits.specs.Bits.{printable}
 use Rattle.bits.specs.Numbers.{big, bytes}
 use Rattle.bits.specs.Places.{twoAt, fourAt}
 use Rattle.bits.specs.Rows.{joined, oneAt, bytesAt}
@@ -33,9 +34,6 @@ use Rattle.configuration_page.proofs.Refusals.{none-offends, parts-read
 use Rattle.configuration_page.proofs.TextStarts.{told-byte, past-byte}
 use Rattle.configuration_page.proofs.PlacesOnPage.{page-fixed, page-types, page-header, page-counts, page-lengths, page-texts, page-text}
 use Rattle.shelf_formed.proofs.FormedShelf.{few-elements, in-head, few-types, in-type, text-printable, text-padded, type-clear}
-
-abbrev printable : ℕ → Bool
-printable b = leb 0x20 b && leb b 0x7e
 
 module _ (s : List ℕ) (w : frontFormed s ≡ true) where
   -- the two length fields

@@ -4,6 +4,7 @@ use mathlib.Core.List.{List}
 use Prim.Native.Nat.{ℕ, _+_, _-_, _/_, _%_}
 use lib.Dec.{eqb, leb, ltb}
 use lib.ListN.{length, getD}
+use Rattle.bits.specs.Bits.{printable}
 use Rattle.bits.specs.Choice.{pick, firstBelow, sumBelow}
 use Rattle.element.specs.Types.{served}
 use Rattle.refusals.specs.declared.Refusal.the-variants.{NotAllowed}
@@ -50,7 +51,7 @@ headerOffends p t j b =
 
 -- b in a text
 unfoldable pub textOffends : ℕ → Bool
-textOffends b = not (leb 0x20 b && leb b 0x7e)
+textOffends b = not (printable b)
 
 -- the byte at k, wherever that is
 unfoldable pub offends : List ℕ → ℕ → Bool

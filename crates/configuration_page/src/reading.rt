@@ -122,7 +122,7 @@ fn headers_offence(page: &[u8], n: u16) -> u32
 fn text_offends(b: u8) -> bool
     ensures { λ r. ⌜ r ≡ textOffends b ⌝ }
 {
-    !((0x20 <= b) & (b <= 0x7e))
+    !bits::is_printable(b)
 }
 
 // The first of n bytes, or n. The texts start at `from`, and nothing before them offends.

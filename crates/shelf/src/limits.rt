@@ -12,6 +12,9 @@ pub const MOST_IN_TYPE: u8 = 64;
 
 pub const MOST_TEXT: u16 = 32;
 
+// A slot page has one for each type, and one for each element.
+pub const MOST_SLOTS: u16 = MOST_TYPES + MOST_ELEMENTS;
+
 pub const GENERATION: u32 = 0;
 
 pub const LOGICAL_IDENTIFIER: u32 = 4;
@@ -34,6 +37,17 @@ const ELEMENT_SIZE: u32 = 16;
 
 // The bytes of a configuration: the block up to its first element.
 pub const CONFIGURATION: usize = FIRST_ELEMENT as usize;
+
+pub const LONGEST_BLOCK: usize = CONFIGURATION + ELEMENT_SIZE as usize * MOST_ELEMENTS as usize;
+
+// Four bytes of settings for each element.
+pub const LONGEST_WANTED_LIST: usize = 4 * MOST_ELEMENTS as usize;
+
+// A status, control or threshold page: its head, and four bytes for each slot.
+pub const LONGEST_SLOT_PAGE: usize = 8 + 4 * MOST_SLOTS as usize;
+
+// Its head, and for each type a header of four bytes and a text.
+pub const LONGEST_CONFIGURATION_PAGE: usize = 48 + (4 + MOST_TEXT as usize) * MOST_TYPES as usize;
 
 pub fn type_place(t: u16) -> u32
     ensures { λ r. ⌜ r ≡ typePlace t ⌝ }

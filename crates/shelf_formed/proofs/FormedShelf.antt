@@ -7,6 +7,7 @@ use native.Mathlib.Omega.{arith}
 use lib.Dec.{eqb, leb}
 use lib.ListN.{length, getD}
 use borrow.Author.Tests.{leb-true, eqb-true, lt-ltb, le-ltb}
+use Rattle.bits.specs.Bits.{printable}
 use Rattle.bits.specs.Choice.{allBelow}
 use Rattle.bits.proofs.Logic.{and-left, and-right, and-five, below-at, pick-yes, pick-no}
 use Rattle.element.specs.Types.{served, readingAllowed, nominalAllowed}
@@ -61,7 +62,7 @@ module _ (s : List ℕ) (w : frontFormed s ≡ true) where
     unfolding textFormed
     text-byte i l = below-at (textByteFormed s t) mostText (in-type .4) i l
 
-    pub text-printable : (i : ℕ) → i < textLength s t → leb 0x20 (getD s (textPlace t + i) 0) && leb (getD s (textPlace t + i) 0) 0x7e ≡ true
+    pub text-printable : (i : ℕ) → i < textLength s t → printable (getD s (textPlace t + i) 0) ≡ true
     text-printable i l = sym (pick-yes _ _ _ (lt-ltb i (textLength s t) l)) ∙ text-byte i (omega (arith, short-text))
 
     pub text-padded : (i : ℕ) → textLength s t ≤ i → i < mostText → getD s (textPlace t + i) 0 ≡ 0

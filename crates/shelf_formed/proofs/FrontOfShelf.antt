@@ -10,6 +10,7 @@ use lib.ListN.{length, getD, take}
 use lib.Seq.{getD-take, length-take-le}
 use borrow.Author.Tests.{eq-eqb}
 use Rattle.bits.specs.Choice.{pick, allBelow}
+use Rattle.bits.specs.Bits.{printable}
 use Rattle.bits.proofs.Logic.{and-both, all-same, first-same}
 use Rattle.element.specs.Types.{served, kindOf}
 use Rattle.shelf.specs.Limits.{mostTypes, mostElements, mostInType, mostText, typeSize, typePlace, textPlace, elementPlace}
@@ -41,7 +42,7 @@ module _ (s : List ℕ) where
 
     text-byte-same : (i : ℕ) → i < mostText → textByteFormed (front s) t i ≡ textByteFormed s t i
     text-byte-same i l =
-        ap₂ (λ (m b : ℕ). pick (ltb i m) (leb 0x20 b && leb b 0x7e) (eqb b 0)) text-same (front-get (textPlace t + i) (omega arith))
+        ap₂ (λ (m b : ℕ). pick (ltb i m) (printable b) (eqb b 0)) text-same (front-get (textPlace t + i) (omega arith))
 
     type-byte-same : (i : ℕ) → i < typeSize → typeByteEmpty (front s) t i ≡ typeByteEmpty s t i
     type-byte-same i l = ap (λ (b : ℕ). eqb b 0) (front-get (typePlace t + i) (omega arith))

@@ -8,6 +8,7 @@ use lib.Dec.{eqb, leb}
 use lib.ListN.{getD}
 use borrow.Author.Tests.{lt-ltb, le-ltb, lt-leb, le-leb, eq-eqb, ne-eqb, eqb-true, eqb-false}
 use Rattle.bits.specs.Choice.{allBelow}
+use Rattle.bits.specs.Bits.{printable}
 use Rattle.bits.specs.Places.{fourAt}
 use Rattle.bits.specs.Numbers.{big}
 use Rattle.bits.proofs.Logic.{by-case, below-cut}
@@ -32,7 +33,7 @@ pub text-read : (s : List ℕ) (t : ℕ) {k : ℕ} {e : List ℕ} → k ≡ type
 text-read s t p h = rw (h, p)
 
 module _ (s : List ℕ) (t : ℕ) {n : ℕ} (q : n ≡ textLength s t) where
-  pub byte-printable : (i : ℕ) {k b : ℕ} → i < n → k ≡ textPlace t → b ≡ getD s (k + i) 0 → leb 0x20 b && leb b 0x7e ≡ textByteFormed s t i
+  pub byte-printable : (i : ℕ) {k b : ℕ} → i < n → k ≡ textPlace t → b ≡ getD s (k + i) 0 → printable b ≡ textByteFormed s t i
   byte-printable i l u v = rw (lt-ltb i (textLength s t) (rw q at l), v, u)
 
   pub byte-ended : (i : ℕ) {k b : ℕ} → n ≤ i → k ≡ textPlace t → b ≡ getD s (k + i) 0 → eqb b 0 ≡ textByteFormed s t i

@@ -6,6 +6,7 @@ use Prim.Native.Nat.{ℕ, _+_}
 use lib.Dec.{eqb, leb, ltb}
 use lib.ListN.{length, getD}
 use Rattle.bits.specs.Choice.{pick, allBelow}
+use Rattle.bits.specs.Bits.{printable}
 use Rattle.element.specs.declared.types.Kind.{Kind}
 use Rattle.element.specs.Types.{served, readingAllowed, nominalAllowed}
 use Rattle.element.specs.Settings.{settingsFormed}
@@ -25,11 +26,11 @@ unfoldable pub headFormed : List ℕ → Bool
 headFormed s =
     (((leb 1 (typesOf s) && leb (typesOf s) mostTypes) && eqb (getD s 41 0) 0) && eqb (getD s 42 0) 0) && eqb (getD s 43 0) 0
 
--- each byte of the text is 20h to 7Eh, and zeros stand after its end
+-- each byte of the text is printable, and zeros stand after its end
 abbrev pub textByteFormed : List ℕ → ℕ → ℕ → Bool
 textByteFormed s t i =
     let b : ℕ = getD s (textPlace t + i) 0 in
-    pick (ltb i (textLength s t)) (leb 0x20 b && leb b 0x7e) (eqb b 0)
+    pick (ltb i (textLength s t)) (printable b) (eqb b 0)
 
 unfoldable pub textFormed : List ℕ → ℕ → Bool
 textFormed s t = allBelow (textByteFormed s t) mostText

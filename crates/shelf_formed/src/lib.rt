@@ -90,7 +90,7 @@ fn text_printable(shelf: &[u8], t: u16, n: u16) -> bool
     let mut i: u16 = 0;
     while i < n {
         let b = bits::byte_at(shelf, limits::text_place(t) + i as u32);
-        if !((0x20 <= b) & (b <= 0x7e)) {
+        if !bits::is_printable(b) {
             return false;
         }
         i += 1;

@@ -2,10 +2,8 @@
 use build_page::built::Built;
 use shelf::limits;
 
-const MOST_BYTES: usize = 8 + 4 * (limits::MOST_TYPES + limits::MOST_ELEMENTS) as usize;
-
 pub fn tell(shelf: &[u8], wanted: &[u8]) {
-    let mut page = [0u8; MOST_BYTES];
+    let mut page = [0u8; limits::LONGEST_SLOT_PAGE];
     tell_into(shelf, wanted, &mut page);
 }
 

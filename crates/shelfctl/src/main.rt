@@ -122,7 +122,7 @@ fn without_file(command: Command) {
 }
 
 fn on_named_file(command: Command, place: u8) {
-    let mut block = io::buffer();
+    let mut block = [0u8; files::BLOCK_ROOM];
     let loaded = files::load(place, b"FILE", &mut block);
     if !loaded.is_done {
         say_usage();
@@ -158,7 +158,7 @@ fn tell_checked(shelf: &[u8]) -> bool {
 }
 
 fn build(shelf: &[u8]) {
-    let mut wanted = io::buffer();
+    let mut wanted = [0u8; files::WANTED_ROOM];
     let loaded = files::load(INPUT_PLACE, b"WANTED", &mut wanted);
     if !loaded.is_done {
         say_usage();
@@ -169,7 +169,7 @@ fn build(shelf: &[u8]) {
 }
 
 fn apply(act: Act, shelf: &mut [u8]) {
-    let mut page = io::buffer();
+    let mut page = [0u8; files::PAGE_ROOM];
     let loaded = files::load(INPUT_PLACE, b"PAGE", &mut page);
     if !loaded.is_done {
         say_usage();

@@ -8,11 +8,11 @@ pub enum Page {
     Thresholds,
 }
 
-// The longest page is a configuration with all types, each with the longest text.
-const MOST_BYTES: usize = 48 + (4 + limits::MOST_TEXT as usize) * limits::MOST_TYPES as usize;
+// The longest of all pages is a configuration.
+const LONGEST: usize = limits::LONGEST_CONFIGURATION_PAGE;
 
 pub fn tell(page: Page, shelf: &[u8]) {
-    let mut out = [0u8; MOST_BYTES];
+    let mut out = [0u8; LONGEST];
     let written = write(page, shelf, &mut out);
     tell_written(written, &out);
 }
@@ -24,7 +24,7 @@ pub fn tell_all(shelf: &[u8]) {
 }
 
 pub fn tell_headed(name: &[u8], page: Page, shelf: &[u8]) {
-    let mut out = [0u8; MOST_BYTES];
+    let mut out = [0u8; LONGEST];
     let written = write(page, shelf, &mut out);
     say_head(name, written.bytes());
     tell_written(written, &out);

@@ -7,8 +7,6 @@ ghost use Prim.Native.Nat.{_*_, _≤_};
 ghost use lib.ListN.{length};
 ghost use Rattle.shelf.specs.Limits.{elementPlace};
 
-const MOST_BYTES: usize = 4 * limits::MOST_ELEMENTS as usize;
-
 // The list in hexadecimal, or the refusal.
 pub fn tell(shelf: &[u8]) {
     let answer = ses::check(shelf);
@@ -18,7 +16,7 @@ pub fn tell(shelf: &[u8]) {
 }
 
 fn show(shelf: &[u8]) {
-    let mut list = [0u8; MOST_BYTES];
+    let mut list = [0u8; limits::LONGEST_WANTED_LIST];
     let n = put(shelf, &mut list);
     tool_print::hex_lines(&list, 4 * n as u32);
 }

@@ -7,8 +7,7 @@ ghost use lib.ListN.{length};
 ghost use Rattle.status_record.specs.Entries.{entryPlace, HasEntry, entryPut, entryAt, headPut, bitsAt, entriesIn, bitsFormed};
 
 // A record has room for an entry of each slot.
-pub const LENGTH: usize = 4
-    + element_status::ENTRY * (limits::MOST_TYPES as usize + limits::MOST_ELEMENTS as usize);
+pub const LENGTH: usize = 4 + element_status::ENTRY * limits::MOST_SLOTS as usize;
 
 fn entry_place(i: u16) -> u32
     ensures { λ r. ⌜ r ≡ entryPlace i ⌝ }

@@ -18,7 +18,7 @@ ghost use Rattle.threshold_rows.specs.Rows.{onPage, HasRows};
 ghost use Rattle.threshold_page_in.specs.Read.{headPut, bytesTested, thresholdTested, thresholdRead, thresholdRecord};
 
 // A threshold record has room for an entry of each slot.
-pub const LENGTH: usize = 4 + 4 * (limits::MOST_TYPES as usize + limits::MOST_ELEMENTS as usize);
+pub const LENGTH: usize = 4 + 4 * limits::MOST_SLOTS as usize;
 
 // Two bytes that hold nothing, and the number of entries.
 fn put_head(fields: &mut [u8], n: u16)

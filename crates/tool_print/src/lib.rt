@@ -82,7 +82,7 @@ pub fn hex_lines(s: &[u8], n: u32) {
 }
 
 fn printable(b: u8) -> u8 {
-    if (0x20 <= b) & (b <= 0x7e) { b } else { b'.' }
+    if bits::is_printable(b) { b } else { b'.' }
 }
 
 // The words, which end with a quotation mark, the text that stands at a place, and the closing mark.

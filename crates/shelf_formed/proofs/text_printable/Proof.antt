@@ -34,8 +34,11 @@ add-byte-at c = omega (arith, c .text-place .ensures)
 byte-at-requires : tie.Need-byte-at-requires Inv-loop μ-loop
 byte-at-requires c κs = search needs
 
+is-printable-requires : tie.Need-is-printable-requires Inv-loop μ-loop
+is-printable-requires c κs = search needs
+
 returns : tie.Need-returns Inv-loop μ-loop
-returns c = let q = c .before .before .before .before .before .before in let s = q .args in let l = c .before .before .before .before .loop in sym (below-fails (textByteFormed (now (s .shelf)) (s .t)) (s .n) (l .i) (c .before .before .before .loop-test .taken) (sym (byte-printable (now (s .shelf)) (s .t) (q .pre .1 .1) (l .i) (c .before .before .before .loop-test .taken) (c .before .before .text-place .ensures) (c .before .byte-at .ensures)) ∙ not-true _ (c .if1 .taken)))
+returns c = let q = c .before .before .before .before .before .before .before in let s = q .args in let l = c .before .before .before .before .before .loop in sym (below-fails (textByteFormed (now (s .shelf)) (s .t)) (s .n) (l .i) (c .before .before .before .before .loop-test .taken) (sym (byte-printable (now (s .shelf)) (s .t) (q .pre .1 .1) (l .i) (c .before .before .before .before .loop-test .taken) (c .before .before .before .text-place .ensures) (c .before .before .byte-at .ensures)) ∙ sym (c .before .is-printable .ensures) ∙ not-true _ (c .if1 .taken)))
 
 add-i : tie.Need-add-i Inv-loop μ-loop
 add-i c = omega arith
@@ -44,7 +47,7 @@ loop-less : tie.Need-loop-less Inv-loop μ-loop
 loop-less c = omega arith
 
 loop-again : tie.Need-loop-again Inv-loop μ-loop
-loop-again c = let q = c .before .before .before .before .before .before in let s = q .args in let l = c .before .before .before .before .loop in (omega arith, below-next (textByteFormed (now (s .shelf)) (s .t)) (l .i) (l .inv .1) (sym (byte-printable (now (s .shelf)) (s .t) (q .pre .1 .1) (l .i) (c .before .before .before .loop-test .taken) (c .before .before .text-place .ensures) (c .before .byte-at .ensures)) ∙ not-false _ (c .if1 .left)))
+loop-again c = let q = c .before .before .before .before .before .before .before in let s = q .args in let l = c .before .before .before .before .before .loop in (omega arith, below-next (textByteFormed (now (s .shelf)) (s .t)) (l .i) (l .inv .1) (sym (byte-printable (now (s .shelf)) (s .t) (q .pre .1 .1) (l .i) (c .before .before .before .before .loop-test .taken) (c .before .before .before .text-place .ensures) (c .before .before .byte-at .ensures)) ∙ sym (c .before .is-printable .ensures) ∙ not-false _ (c .if1 .left)))
 
 returns-2 : tie.Need-returns-2 Inv-loop μ-loop
 returns-2 c = let e : c .before .loop .i ≡ c .before .before .before .args .n = omega arith in sym (rw e at (c .before .loop .inv .1))
@@ -60,6 +63,7 @@ text-printable-spec =
     cast-byte-at
     add-byte-at
     byte-at-requires
+    is-printable-requires
     returns
     add-i
     loop-less

@@ -74,7 +74,7 @@ static inline const char *ses_meaning(uint8_t number)
 #define SES_LONGEST_WANTED_LIST (SES_SETTINGS_LENGTH * SES_MOST_ELEMENTS)
 
 /* A status, control or threshold page (02h, 05h); and a configuration page (01h), which may be longer. */
-#define SES_LONGEST_PAGE (8 + 4 * SES_MOST_SLOTS)
+#define SES_LONGEST_SLOT_PAGE (8 + 4 * SES_MOST_SLOTS)
 #define SES_LONGEST_CONFIGURATION_PAGE (48 + (4 + SES_MOST_TEXT) * SES_MOST_TYPES)
 
 /* What a status element shows, field by field. An entry has four bytes that all types have and twelve that

@@ -28,7 +28,7 @@
 _Static_assert(SES_CONFIGURATION_LENGTH == 332, "a configuration");
 _Static_assert(SES_LONGEST_BLOCK == 1356, "the longest shelf block");
 _Static_assert(SES_LONGEST_WANTED_LIST == 256, "the longest wanted list");
-_Static_assert(SES_LONGEST_PAGE == 296, "the longest status, control or threshold page");
+_Static_assert(SES_LONGEST_SLOT_PAGE == 296, "the longest status, control or threshold page");
 _Static_assert(SES_LONGEST_CONFIGURATION_PAGE == 336, "the longest configuration page");
 _Static_assert(sizeof(struct ses_shown) == 16, "an entry of a status record has no gaps");
 _Static_assert(sizeof(struct ses_status) == 1156, "a status record has no gaps");

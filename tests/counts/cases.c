@@ -10,7 +10,7 @@ struct job job;
 void prepare(unsigned call, unsigned on_shelf);
 
 /* The lent memory. */
-static uint8_t shelf[1356], configuration[SES_CONFIGURATION_LENGTH], page[336], wanted[256], out[512];
+static uint8_t shelf[SES_LONGEST_BLOCK], configuration[SES_CONFIGURATION_LENGTH], page[SES_LONGEST_CONFIGURATION_PAGE], wanted[SES_LONGEST_WANTED_LIST], out[512];
 static struct ses_status status;
 static struct ses_thresholds thresholds;
 static uint32_t written, selects;

@@ -1,7 +1,12 @@
 pub mod Logic
 pub mod Halves
 pub mod Widths
+pub mod Sums
 pub mod FourPut
 pub mod FoursPut
 pub mod Offence
 pub mod Rows
+pub mod RowStarts
+pub mod Parts
+pub mod RowsPut
+pub mod Every

@@ -4,36 +4,54 @@ use mathlib.Core.Bool.{Bool, true, false}
 use mathlib.Core.List.{List, [], _∷_, _++_, append-assoc, append-nil}
 use mathlib.Core.Logic.{⊎-elim}
 use Prim.Native.Nat.{ℕ, zero, suc, _+_, _*_, _<_, _≤_}
-use native.Mathlib.Nat.{not-suc-le-zero, le-of-suc-le-suc, eq-or-lt-of-le, mul-suc, mul-zero, add-zero}
+use native.Mathlib.Nat.{not-suc-le-zero, le-of-suc-le-suc, eq-or-lt-of-le, mul-suc, mul-zero, add-zero, zero-add}
 use native.Mathlib.Numerals.{add-one}
 use native.Mathlib.Omega.{arith}
 use lib.Dec.{leb}
 use lib.ListN.{length, getD, take, drop, set, length-append, length-drop, take-append-drop, List·getD-append}
-use lib.Seq.{sets, sets-eq, take-at, drop-append-add, drop-drop, drop-cons, take-add, getD-append-add, getD-drop, take-suc, set-at, append-snoc, length-take-le}
+use lib.Seq.{sets, sets-eq, take-at, drop-append-add, drop-drop, drop-cons, take-add, getD-append-add, getD-drop, take-suc, set-at, append-snoc, length-take-le, take-all}
 use borrow.Author.Tests.{le-leb, leb-true}
 use Rattle.bits.specs.Choice.{pick}
 use Rattle.bits.specs.Places.{fourAt, putFour}
 use Rattle.bits.specs.Rows.{joined, oneAt, bytesAt, putBytes}
-use Rattle.bits.proofs.Logic.{pick-yes}
+use Rattle.bits.proofs.Logic.{by-case, pick-yes, pick-no}
 
-module _ (f : ℕ → List ℕ) (w : ℕ) (h : (i : ℕ) → length (f i) ≡ w) where
-  pub length-joined : (n : ℕ) → length (joined f n) ≡ w * n
-  length-joined zero = sym (mul-zero w)
-  length-joined (suc n) = length-append (joined f n) (f n) ∙ rw (length-joined n, h n) (sym (mul-suc w n))
+-- row i has the width w i, and the row behind it starts where it ends
+abbrev pub EndToEnd : (ℕ → ℕ) → (ℕ → ℕ) → (ℕ → List ℕ) → Type 0
+EndToEnd at w f = (i : ℕ) → (length (f i) ≡ w i) × (at (suc i) ≡ at i + w i)
+
+-- rows of any widths, one after the other behind g
+module _ (at w : ℕ → ℕ) (f : ℕ → List ℕ) (h : EndToEnd at w f) (g : List ℕ) (e : length g ≡ at 0) where
+  pub rows-end : (n : ℕ) → length (g ++ joined f n) ≡ at n
+  rows-end zero = ap length (append-nil g) ∙ e
+  rows-end (suc n) =
+      ap length (sym (append-assoc g (joined f n) (f n))) ∙ length-append (g ++ joined f n) (f n) ∙ rw (rows-end n, h n .0) (sym (h n .1))
 
   -- byte k of row i
-  pub joined-get : (n : ℕ) (rest : List ℕ) (i k : ℕ) → i < n → k < w → getD (joined f n ++ rest) (w * i + k) 0 ≡ getD (f i) k 0
-  joined-get zero rest i k l m = absurd (not-suc-le-zero l)
-  joined-get (suc n) rest i k l m =
-      ap (λ (r : List ℕ). getD r (w * i + k) 0) (append-assoc (joined f n) (f n) rest)
-      ∙ ⊎-elim (λ e. last e) (λ (b : i < n). joined-get n (f n ++ rest) i k b m) (eq-or-lt-of-le (le-of-suc-le-suc l))
+  pub row-get : (n : ℕ) (rest : List ℕ) (i k : ℕ) → i < n → k < w i → getD (g ++ joined f n ++ rest) (at i + k) 0 ≡ getD (f i) k 0
+  row-get zero rest i k l m = absurd (not-suc-le-zero l)
+  row-get (suc n) rest i k l m =
+      ap (λ (r : List ℕ). getD (r ++ rest) (at i + k) 0) (sym (append-assoc g (joined f n) (f n)))
+      ∙ ap (λ (r : List ℕ). getD r (at i + k) 0) (append-assoc (g ++ joined f n) (f n) rest)
+      ∙ ⊎-elim (λ q. last q) (λ (b : i < n). row-get n (f n ++ rest) i k b m) (eq-or-lt-of-le (le-of-suc-le-suc l))
     where
-      last : i ≡ n → getD (joined f n ++ (f n ++ rest)) (w * i + k) 0 ≡ getD (f i) k 0
-      last e =
-          ap (λ (x : ℕ). getD (joined f n ++ (f n ++ rest)) (x + k) 0) (ap (λ (y : ℕ). w * y) e ∙ sym (length-joined n))
-          ∙ getD-append-add (joined f n) (f n ++ rest) k 0
-          ∙ List·getD-append (f n) rest 0 k (rw (h n) m)
-          ∙ ap (λ (y : ℕ). getD (f y) k 0) (sym e)
+      last : i ≡ n → getD (g ++ joined f n ++ (f n ++ rest)) (at i + k) 0 ≡ getD (f i) k 0
+      last q =
+          ap (λ (x : ℕ). getD (g ++ joined f n ++ (f n ++ rest)) (x + k) 0) (ap at q ∙ sym (rows-end n))
+          ∙ getD-append-add (g ++ joined f n) (f n ++ rest) k 0
+          ∙ List·getD-append (f n) rest 0 k (rw (h n .0) (rw q at m))
+          ∙ ap (λ (y : ℕ). getD (f y) k 0) (sym q)
+
+-- rows of one width, from the front on
+module _ (f : ℕ → List ℕ) (w : ℕ) (h : (i : ℕ) → length (f i) ≡ w) where
+  one-width : EndToEnd (λ i. w * i) (λ i. w) f
+  one-width i = (h i, mul-suc w i)
+
+  pub length-joined : (n : ℕ) → length (joined f n) ≡ w * n
+  length-joined n = rows-end (λ i. w * i) (λ i. w) f one-width [] (sym (mul-zero w)) n
+
+  pub joined-get : (n : ℕ) (rest : List ℕ) (i k : ℕ) → i < n → k < w → getD (joined f n ++ rest) (w * i + k) 0 ≡ getD (f i) k 0
+  joined-get n rest i k l m = row-get (λ i. w * i) (λ i. w) f one-width [] (sym (mul-zero w)) n rest i k l m
 
 -- rows that are the same one by one are the same together
 pub joined-same : (f g : ℕ → List ℕ) (n : ℕ) → ((i : ℕ) → i < n → f i ≡ g i) → joined f n ≡ joined g n
@@ -49,14 +67,6 @@ as-four (a ∷ b ∷ c ∷ []) e = absurd (omega arith)
 as-four (a ∷ b ∷ c ∷ d ∷ []) e = refl
 as-four (a ∷ b ∷ c ∷ d ∷ x ∷ r) e = absurd (omega arith)
 
-pub joined-four : (f : ℕ → List ℕ) → ((i : ℕ) → length (f i) ≡ 4) → (n i : ℕ) → i < n → fourAt (joined f n) (4 * i) ≡ f i
-joined-four f h n i l =
-    let z = ap (λ (x : ℕ). getD (joined f n) x 0) (sym (add-zero (4 * i))) ∙ at 0 (omega arith) in
-    rw (z, at 1 (omega arith), at 2 (omega arith), at 3 (omega arith)) (sym (as-four (f i) (h i)))
-  where
-    at : (k : ℕ) → k < 4 → getD (joined f n) (4 * i + k) 0 ≡ getD (f i) k 0
-    at k b = ap (λ (r : List ℕ). getD r (4 * i + k) 0) (sym (append-nil (joined f n))) ∙ joined-get f 4 h n [] i k l b
-
 -- bytes written behind what stands
 behind : (p s v : List ℕ) (k n : ℕ) → length p ≡ k → take k (p ++ drop k s) ++ v ++ drop (k + n) (p ++ drop k s) ≡ p ++ v ++ drop (k + n) s
 behind p s v k n e =
@@ -68,7 +78,13 @@ behind p s v k n e =
 length-behind : (p s : List ℕ) (k n : ℕ) → length p ≡ k → k + n ≤ length s → k + n ≤ length (p ++ drop k s)
 length-behind p s k n e h = rw (length-append p (drop k s), length-drop k s, e) (omega arith)
 
--- four bytes as one row
+pub bytes-next : (p s f : List ℕ) (k : ℕ) → length p ≡ k → k + length f ≤ length s
+    → putBytes (p ++ drop k s) k f ≡ p ++ f ++ drop (k + length f) s
+unfolding putBytes
+bytes-next p s f k e h =
+    pick-yes _ _ _ (le-leb (k + length f) (length (p ++ drop k s)) (length-behind p s k (length f) e h))
+    ∙ behind p s f k (length f) e
+
 as-sets : (s : List ℕ) (k a b c d : ℕ) → set (set (set (set s k a) (k + 1) b) (k + 2) c) (k + 3) d ≡ sets s k (a ∷ b ∷ c ∷ d ∷ [])
 as-sets s k a b c d =
     let e1 : k + 1 ≡ suc k = omega arith in
@@ -76,22 +92,22 @@ as-sets s k a b c d =
     let e3 : k + 3 ≡ suc (suc (suc k)) = omega arith in
     rw (e1, e2, e3)
 
+-- four bytes that are put are a row
+pub four-put : (s : List ℕ) (k : ℕ) (f : List ℕ) → length f ≡ 4 → putFour s k f ≡ putBytes s k f
+unfolding putFour putBytes
+four-put s k f e =
+    let a = getD f 0 0 in
+    let b = getD f 1 0 in
+    let c = getD f 2 0 in
+    let d = getD f 3 0 in
+    rw (as-four f e)
+    (by-case (leb (k + 4) (length s))
+    (λ t. pick-yes _ _ _ t ∙ as-sets s k a b c d ∙ sets-eq (a ∷ b ∷ c ∷ d ∷ []) s k (leb-true (k + 4) (length s) t) ∙ sym (pick-yes _ _ _ t))
+    (λ t. pick-no _ _ _ t ∙ sym (pick-no _ _ _ t)))
+
 pub put-next : (p s : List ℕ) (k a b c d : ℕ) → length p ≡ k → k + 4 ≤ length s
     → putFour (p ++ drop k s) k (a ∷ b ∷ c ∷ d ∷ []) ≡ p ++ (a ∷ b ∷ c ∷ d ∷ []) ++ drop (k + 4) s
-unfolding putFour
-put-next p s k a b c d e h =
-    let l = length-behind p s k 4 e h in
-    pick-yes _ _ _ (le-leb (k + 4) (length (p ++ drop k s)) l)
-    ∙ as-sets (p ++ drop k s) k a b c d
-    ∙ sets-eq (a ∷ b ∷ c ∷ d ∷ []) (p ++ drop k s) k l
-    ∙ behind p s (a ∷ b ∷ c ∷ d ∷ []) k 4 e
-
-pub bytes-next : (p s f : List ℕ) (k : ℕ) → length p ≡ k → k + length f ≤ length s
-    → putBytes (p ++ drop k s) k f ≡ p ++ f ++ drop (k + length f) s
-unfolding putBytes
-bytes-next p s f k e h =
-    pick-yes _ _ _ (le-leb (k + length f) (length (p ++ drop k s)) (length-behind p s k (length f) e h))
-    ∙ behind p s f k (length f) e
+put-next p s k a b c d e h = four-put (p ++ drop k s) k (a ∷ b ∷ c ∷ d ∷ []) refl ∙ bytes-next p s (a ∷ b ∷ c ∷ d ∷ []) k e h
 
 pub length-put-bytes : (s : List ℕ) (k : ℕ) (f : List ℕ) → length (putBytes s k f) ≡ length s
 unfolding putBytes
@@ -150,6 +166,31 @@ unfolding bytesAt
 bytes-get s k n i rest l =
     ap (λ (m : ℕ). getD (joined (oneAt s k) n ++ rest) m 0) (let e : i ≡ 1 * i + 0 = omega arith in e)
     ∙ joined-get (oneAt s k) 1 (λ i. refl) n rest i 0 l (omega arith)
+
+-- bytes that are the same one by one are the same together
+pub bytes-same : (s r : List ℕ) (k j n : ℕ) → ((i : ℕ) → i < n → getD s (k + i) 0 ≡ getD r (j + i) 0) → bytesAt s k n ≡ bytesAt r j n
+unfolding bytesAt
+bytes-same s r k j n h = joined-same (oneAt s k) (oneAt r j) n (λ i l. ap (λ (x : ℕ). x ∷ []) (h i l))
+
+pub bytes-whole : (s : List ℕ) (n : ℕ) → length s ≡ n → bytesAt s 0 n ≡ s
+bytes-whole s n e = bytes-there s 0 n (omega arith) ∙ take-all n s (omega arith)
+
+pub four-bytes : (s : List ℕ) (k : ℕ) → bytesAt s k 4 ≡ fourAt s k
+unfolding bytesAt
+four-bytes s k = rw (add-zero k)
+
+-- row i is read back
+pub row-back : (at w : ℕ → ℕ) (f : ℕ → List ℕ) → EndToEnd at w f → (g : List ℕ) → length g ≡ at 0 → (n : ℕ) (rest : List ℕ) (i : ℕ) → i < n
+    → bytesAt (g ++ joined f n ++ rest) (at i) (w i) ≡ f i
+row-back at w f h g e n rest i l =
+    bytes-same (g ++ joined f n ++ rest) (f i) (at i) 0 (w i) (λ k m. row-get at w f h g e n rest i k l m ∙ ap (λ (j : ℕ). getD (f i) j 0) (sym (zero-add k)))
+    ∙ bytes-whole (f i) (w i) (h i .0)
+
+pub joined-four : (f : ℕ → List ℕ) → ((i : ℕ) → length (f i) ≡ 4) → (n i : ℕ) → i < n → fourAt (joined f n) (4 * i) ≡ f i
+joined-four f h n i l =
+    sym (four-bytes (joined f n) (4 * i))
+    ∙ ap (λ (r : List ℕ). bytesAt r (4 * i) 4) (sym (append-nil (joined f n)))
+    ∙ row-back (λ i. 4 * i) (λ i. 4) f (one-width f 4 h) [] refl n [] i l
 
 -- one more byte is copied
 pub copy-start : (s : List ℕ) (k : ℕ) (f : List ℕ) (at : ℕ) → s ≡ take k s ++ bytesAt f at 0 ++ drop (k + 0) s

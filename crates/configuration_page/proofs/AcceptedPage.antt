@@ -15,7 +15,7 @@ use Rattle.shelf.specs.Limits.{mostTypes, mostElements, mostInType, mostText}
 use Rattle.page.specs.Header.{lengthSaid}
 use Rattle.configuration_page.specs.Page.{headerPlace}
 use Rattle.configuration_page.specs.Read.{typesOn, headerByte, totalBefore, textPlaceOn, neededLength, fixedOffends, headerOffends, textOffends, offends, firstOffence, configurationRead}
-use Rattle.configuration_page.proofs.Refusals.{fixed-at, header-at, text-at, read-parts}
+use Rattle.configuration_page.proofs.Refusals.{fixed-at, header-at, text-at, headers-there, read-parts}
 
 module _ (p : List ℕ) (a : configurationRead p ≡ Accepted) where
   passed : (getD p 0 0 ≡ 0x01) × (lengthSaid p ≡ true) × (length p ≡ neededLength p) × (firstOffence p ≡ length p)
@@ -36,8 +36,7 @@ module _ (p : List ℕ) (a : configurationRead p ≡ Accepted) where
   fine k h = first-fails (offends p) (length p) k (rw (passed .3) h)
 
   pub headers-in : headerPlace (typesOn p) ≤ length p
-  unfolding textPlaceOn
-  headers-in = omega (arith, needed-passed)
+  headers-in = headers-there p (passed .2)
 
   -- the first 48 bytes
   fixed-fine : (k : ℕ) → k < 48 → fixedOffends k (getD p k 0) ≡ false
@@ -74,11 +73,11 @@ module _ (p : List ℕ) (a : configurationRead p ≡ Accepted) where
     unfolding headerOffends
     code-served = not-false _ (header-fine 0 (omega arith))
 
-    pub counts-passed : (leb (headerByte p 1 t) mostInType ≡ true) × (leb (totalBefore p 1 t + headerByte p 1 t) mostElements ≡ true)
+    pub counts-passed : (leb (headerByte p 1 t) mostInType ≡ true) × (leb (totalBefore p t + headerByte p 1 t) mostElements ≡ true)
     unfolding headerOffends
     counts-passed =
         let c = leb (headerByte p 1 t) mostInType in
-        let d = leb (totalBefore p 1 t + headerByte p 1 t) mostElements in
+        let d = leb (totalBefore p t + headerByte p 1 t) mostElements in
         let q = not-false (c && d) (header-fine 1 (omega arith)) in
         (and-left c d q, and-right c d q)
 

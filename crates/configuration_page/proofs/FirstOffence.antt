@@ -108,7 +108,7 @@ module _ (p : List ℕ) where
           fixed-none e = found-none p (rw (e1, e8, e9, e10, e))
 
 -- the header of type t
-module _ (p : List ℕ) (t : ℕ) (h : t < typesOn p) {e : List ℕ} {s : ℕ} {v : Bool} (ee : e ≡ fourAt p (headerPlace t)) (es : s ≡ totalBefore p 1 t) (ev : v ≡ served (getD e 0 0)) where
+module _ (p : List ℕ) (t : ℕ) (h : t < typesOn p) {e : List ℕ} {s : ℕ} {v : Bool} (ee : e ≡ fourAt p (headerPlace t)) (es : s ≡ totalBefore p t) (ev : v ≡ served (getD e 0 0)) where
   counted : Bool
   counted = leb (getD e 1 0) mostInType && leb (s + getD e 1 0) mostElements
 
@@ -144,7 +144,7 @@ module _ (p : List ℕ) (t : ℕ) (h : t < typesOn p) {e : List ℕ} {s : ℕ} {
         (four-found (offends p) (headerPlace t) a v counted (eqb (getD e 2 0) 0) (leb (getD e 3 0) mostText) offends-0 offends-1 offends-2 offends-3
         (headerPlace n) (omega arith) (rw ek at l))
 
-    pub header-passed : 4 ≤ k → (s + getD e 1 0 ≤ mostElements) × (s + getD e 1 0 ≡ totalBefore p 1 (t + 1)) × (allBelow (fails (offends p)) (headerPlace (t + 1)) ≡ true)
+    pub header-passed : 4 ≤ k → (s + getD e 1 0 ≤ mostElements) × (s + getD e 1 0 ≡ totalBefore p (t + 1)) × (allBelow (fails (offends p)) (headerPlace (t + 1)) ≡ true)
     unfolding counted
     header-passed l =
         let x2 = eqb (getD e 2 0) 0 in
@@ -153,6 +153,6 @@ module _ (p : List ℕ) (t : ℕ) (h : t < typesOn p) {e : List ℕ} {s : ℕ} {
         let n = four-none (offends p) (headerPlace t) a (offends-0 ∙ ap not (o .0)) (offends-1 ∙ ap not (o .1)) (offends-2 ∙ ap not (o .2)) (offends-3 ∙ ap not (o .3)) in
         let g : headerPlace t + 4 ≡ headerPlace (t + 1) = omega arith in (
           leb-true (s + getD e 1 0) mostElements (and-right (leb (getD e 1 0) mostInType) (leb (s + getD e 1 0) mostElements) (o .1)),
-          total-next p 1 t es (byte-of 1),
+          total-next p t es (byte-of 1),
           rw g at n,
         )

@@ -1,6 +1,5 @@
-pub mod WideRows
 pub mod Loops
-pub mod RowsPut
+pub mod PartsPut
 pub mod Refusals
 pub mod FirstOffence
 pub mod AcceptedPage

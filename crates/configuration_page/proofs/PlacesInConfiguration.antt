@@ -7,13 +7,13 @@ use native.Mathlib.Omega.{arith}
 use lib.ListN.{length, getD, length-append}
 use Rattle.bits.specs.Places.{fourAt}
 use Rattle.bits.specs.Rows.{joined, bytesAt}
-use Rattle.bits.proofs.Rows.{joined-get, bytes-get, length-bytes-at}
+use Rattle.bits.proofs.Parts.{get-front, get-behind}
+use Rattle.bits.proofs.Rows.{joined-get, row-get, bytes-get, length-bytes-at}
 use Rattle.shelf.specs.Limits.{mostTypes, mostText, typeSize, typePlace, textPlace}
 use Rattle.shelf.specs.Types.{typesOf, typeCode}
 use Rattle.configuration_page.specs.Read.{typesOn}
 use Rattle.configuration_page.specs.Configuration.{toldByte, textByte, oneTold, headTold, textTold, typeTold, configurationOf}
-use Rattle.configuration_page.proofs.WideRows.{get-front, get-behind}
-use Rattle.configuration_page.proofs.RowsPut.{length-type}
+use Rattle.configuration_page.proofs.PartsPut.{type-rows}
 
 module _ (p : List ℕ) where
   named : List ℕ
@@ -59,12 +59,8 @@ module _ (p : List ℕ) where
     pub handed-type : (j : ℕ) → j < typeSize → getD (configurationOf p) (typePlace t + j) 0 ≡ getD (typeTold p t) j 0
     unfolding configurationOf named types
     handed-type j l =
-        let rows = joined (typeTold p) mostTypes in
-        let e : typePlace t + j ≡ 44 + (typeSize * t + j) = omega arith in
-        ap (λ (k : ℕ). getD (configurationOf p) k 0) e
-        ∙ get-behind (named ++ types) rows 44 (typeSize * t + j) length-head
-        ∙ ap (λ (r : List ℕ). getD r (typeSize * t + j) 0) (sym (append-nil rows))
-        ∙ joined-get (typeTold p) typeSize (length-type p []) mostTypes [] t j h l
+        ap (λ (r : List ℕ). getD r (typePlace t + j) 0) (sym (append-nil (configurationOf p)))
+        ∙ row-get typePlace (λ t. typeSize) (typeTold p) (type-rows p) (named ++ types) length-head mostTypes [] t j h l
 
     pub handed-code : typeCode (configurationOf p) t ≡ toldByte p 0 t
     unfolding typeTold headTold

@@ -2,8 +2,8 @@
 use mathlib.Core.Path.{_≡_, refl, sym, ap, ap₂, _∙_}
 use mathlib.Core.Bool.{Bool, true}
 use mathlib.Core.List.{List, [], _∷_, _++_}
-use Prim.Native.Nat.{ℕ, zero, suc, _+_, _*_, _-_, _<_, _≤_}
-use native.Mathlib.Nat.{add-zero, zero-add}
+use Prim.Native.Nat.{ℕ, zero, suc, _+_, _-_, _<_, _≤_}
+use native.Mathlib.Nat.{add-zero}
 use native.Mathlib.Omega.{arith}
 use lib.Dec.{eqb, leb, ltb}
 use lib.ListN.{length, getD}
@@ -13,8 +13,12 @@ use Rattle.bits.specs.Choice.{sumBelow}
 use Rattle.bits.specs.Numbers.{big, bytes, Bytes}
 use Rattle.bits.specs.Places.{twoAt, fourAt}
 use Rattle.bits.specs.Rows.{joined, bytesAt}
-use Rattle.bits.proofs.Logic.{and-both, pick-yes, pick-no, below-all}
-use Rattle.bits.proofs.Rows.{joined-same}
+use Rattle.bits.proofs.Every.{Every, every-joined, every-get}
+use Rattle.bits.proofs.Logic.{by-case, and-both, pick-yes, pick-no, below-all}
+use Rattle.bits.proofs.Parts.{pieces, bytes-split, bytes-rows}
+use Rattle.bits.proofs.Rows.{joined-same, bytes-same, four-bytes, bytes-whole}
+use Rattle.bits.proofs.RowStarts.{start-first, start-step, start-behind, start-same, row-in}
+use Rattle.bits.proofs.Sums.{sum-same}
 use Rattle.bits.proofs.Widths.{bytes-big}
 use Rattle.element.specs.Types.{served}
 use Rattle.refusals.specs.declared.Answer.the-variants.{Accepted}
@@ -22,12 +26,10 @@ use Rattle.shelf.specs.Limits.{mostTypes, mostElements, mostInType, mostText, t
 use Rattle.shelf.specs.Types.{typesOf, typeCode, typeCount, textLength, before, elementsOf}
 use Rattle.shelf_formed.specs.Formed.{headFormed, textByteFormed, textFormed, typeFormed, typeByteEmpty, typeEmpty, slotFormed, typesFormed, frontFormed, configurationFormed}
 use Rattle.page.specs.Header.{lengthSaid}
-use Rattle.configuration_page.specs.Page.{headerPlace, typeHeader, textOf, textStart, configurationLength, fixedPart, configurationPage}
+use Rattle.configuration_page.specs.Page.{headerPlace, typeHeader, textOf, configurationLength, fixedPart, configurationPage}
 use Rattle.configuration_page.specs.Read.{typesOn, headerByte, totalBefore, textPlaceOn, configurationRead}
 use Rattle.configuration_page.specs.Configuration.{toldByte, textByte, oneTold, headTold, textTold, typeTold, configurationOf}
-use Rattle.configuration_page.proofs.WideRows.{pieces, bytes-split, bytes-rows, bytes-runs, bytes-same, four-bytes, bytes-whole, sum-same, sum-part, Every, every-joined, every-get}
-use Rattle.bits.proofs.Logic.{by-case}
-use Rattle.configuration_page.proofs.RowsPut.{length-type, length-configuration}
+use Rattle.configuration_page.proofs.PartsPut.{length-type, length-configuration}
 use Rattle.configuration_page.proofs.AcceptedPage.{code-passed, length-passed, needed-passed, byte-1, byte-8, byte-9, byte-11, types-passed, code-served, counts-passed, third-zero, text-short, text-passed}
 use Rattle.configuration_page.proofs.TextStarts.{told-byte, past-byte, told-sum, few-types}
 use Rattle.configuration_page.proofs.PlacesInConfiguration.{handed-generation, handed-identification, handed-types, handed-zeros, handed-type, handed-code, handed-count, handed-length, handed-spare, handed-text}
@@ -74,12 +76,10 @@ module _ (p : List ℕ) (a : configurationRead p ≡ Accepted) where
 
     -- the text stands on the page
     on-page : (i : ℕ) → i < headerByte p 3 t → textPlaceOn p t + i < length p
-    unfolding textPlaceOn totalBefore
-    on-page i l = omega (arith, needed-passed p a, sum-part (headerByte p 3) (typesOn p) t h)
+    on-page i l = omega (arith, needed-passed p a, row-in (headerPlace (typesOn p)) (headerByte p 3) (typesOn p) t h)
 
     after-headers : (i : ℕ) → headerPlace (typesOn p) ≤ textPlaceOn p t + i
-    unfolding textPlaceOn
-    after-headers i = omega arith
+    after-headers i = omega (arith, start-behind (headerPlace (typesOn p)) (headerByte p 3) t)
 
     text-byte : (i : ℕ) → i < mostText → textByteFormed (configurationOf p) t i ≡ true
     unfolding textByte
@@ -111,7 +111,7 @@ module _ (p : List ℕ) (a : configurationRead p ≡ Accepted) where
   unfolding typeEmpty
   type-empty t h l =
       below-all (typeByteEmpty (configurationOf p) t) typeSize
-      (λ i m. ap isZero (handed-type p t l i m) ∙ every-get isZero (typeTold p t) i (past-type p t h) (rw (length-type p [] t) m))
+      (λ i m. ap isZero (handed-type p t l i m) ∙ every-get isZero (typeTold p t) i (past-type p t h) (rw (length-type p t) m))
 
   slot-formed : (t : ℕ) → t < mostTypes → slotFormed (configurationOf p) (typesOf (configurationOf p)) t ≡ true
   unfolding slotFormed
@@ -126,7 +126,7 @@ module _ (p : List ℕ) (a : configurationRead p ≡ Accepted) where
   unfolding totalBefore
   few-on zero e = omega arith
   few-on (suc n) e =
-      leb-true (totalBefore p 1 n + headerByte p 1 n) mostElements (counts-passed p a n (omega arith) .1)
+      leb-true (totalBefore p n + headerByte p 1 n) mostElements (counts-passed p a n (omega arith) .1)
 
   all-counts : elementsOf (configurationOf p) ≡ sumBelow (headerByte p 1) (typesOn p)
   unfolding elementsOf before
@@ -155,15 +155,17 @@ module _ (p : List ℕ) (a : configurationRead p ≡ Accepted) where
 
   -- the page of what was told, part by part
   same-length : configurationLength (configurationOf p) ≡ length p
-  unfolding configurationLength textStart textPlaceOn totalBefore
+  unfolding configurationLength
   same-length =
-      rw (handed-types p, sum-same (textLength (configurationOf p)) (headerByte p 3) (typesOn p) told-length) (sym (needed-passed p a))
+      rw (handed-types p)
+      (start-same (headerPlace (typesOn p)) (textLength (configurationOf p)) (headerByte p 3) (typesOn p) told-length ∙ sym (needed-passed p a))
 
-  same-headers : joined (typeHeader (configurationOf p)) (typesOn p) ≡ bytesAt p 48 (4 * typesOn p)
-  same-headers =
-      joined-same (typeHeader (configurationOf p)) (λ t. bytesAt p (48 + 4 * t) 4) (typesOn p)
-      (λ t l. header t l ∙ sym (four-bytes p (headerPlace t)))
-      ∙ sym (bytes-rows p 48 4 (typesOn p))
+  header-on : ℕ → List ℕ
+  header-on t = bytesAt p (headerPlace t) 4
+
+  same-headers : joined (typeHeader (configurationOf p)) (typesOn p) ≡ joined header-on (typesOn p)
+  unfolding header-on
+  same-headers = joined-same (typeHeader (configurationOf p)) header-on (typesOn p) (λ t l. header t l ∙ sym (four-bytes p (headerPlace t)))
     where
       header : (t : ℕ) → t < typesOn p → typeHeader (configurationOf p) t ≡ fourAt p (headerPlace t)
       header t l =
@@ -172,15 +174,17 @@ module _ (p : List ℕ) (a : configurationRead p ≡ Accepted) where
           let e1 : typeCount (configurationOf p) t ≡ getD p (headerPlace t + 1) 0 = handed-count p t (below t l) ∙ told-byte p t 1 l in
           rw (e0, e1, third-zero p a t l, told-length t l)
 
-  same-texts : joined (textOf (configurationOf p)) (typesOn p) ≡ bytesAt p (headerPlace (typesOn p)) (sumBelow (headerByte p 3) (typesOn p))
-  unfolding textOf textPlaceOn totalBefore
+  text-on : ℕ → List ℕ
+  text-on t = bytesAt p (textPlaceOn p t) (headerByte p 3 t)
+
+  same-texts : joined (textOf (configurationOf p)) (typesOn p) ≡ joined text-on (typesOn p)
+  unfolding textOf text-on
   same-texts =
       let c = configurationOf p in
-      joined-same (textOf c) (λ t. bytesAt p (headerPlace (typesOn p) + sumBelow (headerByte p 3) t) (headerByte p 3 t)) (typesOn p)
+      joined-same (textOf c) text-on (typesOn p)
       (λ t l.
       ap (bytesAt c (textPlace t)) (told-length t l)
-      ∙ bytes-same c p (textPlace t) (headerPlace (typesOn p) + sumBelow (headerByte p 3) t) (headerByte p 3 t) (λ i m. told-text t l i m))
-      ∙ sym (bytes-runs p (headerPlace (typesOn p)) (headerByte p 3) (typesOn p))
+      ∙ bytes-same c p (textPlace t) (textPlaceOn p t) (headerByte p 3 t) (λ i m. told-text t l i m))
 
   module _ (b : Bytes p) where
     -- the length field
@@ -208,17 +212,17 @@ module _ (p : List ℕ) (a : configurationRead p ≡ Accepted) where
         ∙ sym (bytes-split p 0 12 36)
 
     pub page-again : configurationPage (configurationOf p) ≡ p
-    unfolding configurationPage textPlaceOn totalBefore
+    unfolding configurationPage header-on text-on
     page-again =
         let n = typesOn p in
         let c = configurationOf p in
-        let texts : ℕ = sumBelow (headerByte p 3) n in
+        let k = headerPlace n in
+        let w = headerByte p 3 in
         ap₂ (λ (f r : List ℕ). f ++ r ++ joined (textOf c) (typesOf c)) same-fixed (ap (joined (typeHeader c)) (handed-types p) ∙ same-headers)
-        ∙ ap (λ (r : List ℕ). bytesAt p 0 48 ++ bytesAt p 48 (4 * n) ++ r) (ap (joined (textOf c)) (handed-types p) ∙ same-texts)
-        ∙ ap (λ (r : List ℕ). r ++ bytesAt p (headerPlace n) texts) (sym (bytes-split p 0 48 (4 * n)))
-        ∙ ap (λ (k : ℕ). bytesAt p 0 (headerPlace n) ++ bytesAt p k texts) (sym (zero-add (headerPlace n)))
-        ∙ sym (bytes-split p 0 (headerPlace n) texts)
-        ∙ bytes-whole p (headerPlace n + texts) (needed-passed p a)
+        ∙ ap₂ (λ (f r : List ℕ). f ++ r) (sym (bytes-rows p headerPlace (λ t. 4) (λ t. omega arith) n)) (ap (joined (textOf c)) (handed-types p) ∙ same-texts)
+        ∙ ap (λ (m : ℕ). bytesAt p 0 m ++ joined text-on n) (sym (start-first k w))
+        ∙ sym (bytes-rows p (textPlaceOn p) w (start-step k w) n)
+        ∙ bytes-whole p (textPlaceOn p n) (needed-passed p a)
 
 -- so what a reading handed back is well formed, and writing it again is the same bytes
 pub again : (p : List ℕ) → Bytes p → configurationRead p ≡ Accepted

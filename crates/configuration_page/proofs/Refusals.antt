@@ -1,12 +1,12 @@
 -- The tests of a configuration page: of one byte, and all of them one after the other. Assumes nothing.
-use mathlib.Core.Path.{_≡_, sym, ap, ap₂, _∙_}
+use mathlib.Core.Path.{_≡_, sym, ap₂, _∙_}
 use mathlib.Core.Bool.{true, false}
 use mathlib.Core.Logic.{_⊎_, inl, inr}
-use mathlib.Core.List.{List, _++_, append-nil}
+use mathlib.Core.List.{List}
 use Prim.Native.Nat.{ℕ, _+_, _-_, _/_, _%_, _<_, _≤_}
 use native.Mathlib.Omega.{arith}
 use lib.Dec.{eqb, leb}
-use lib.ListN.{length, getD, drop-of-length-le}
+use lib.ListN.{length, getD}
 use borrow.Author.Tests.{lt-ltb, le-ltb, le-leb, leb-false, eq-eqb, ne-eqb, eqb-true}
 use mir.Val.{Fits}
 use mir.Syntax.{w8, w32}
@@ -14,21 +14,19 @@ use Rattle.bits.specs.Choice.{firstBelow}
 use Rattle.bits.specs.Numbers.{big}
 use Rattle.bits.specs.Places.{twoAt}
 use Rattle.bits.proofs.Logic.{pick-yes, pick-no}
+use Rattle.bits.proofs.RowStarts.{start-behind}
 use Rattle.refusals.specs.declared.Refusal.the-variants.{PageLength, NotAllowed}
 use Rattle.refusals.specs.declared.Refusal.{Refusal}
 use Rattle.refusals.specs.declared.Answer.{Answer}
 use Rattle.refusals.specs.declared.Answer.the-variants.{Accepted, Refused}
-use Rattle.refusals.specs.Outcomes.{unless, next, placed}
+use Rattle.refusals.specs.Outcomes.{unless, next}
 use Rattle.refusals.proofs.AcceptedTests.{held, held-both}
 use Rattle.refusals.proofs.Stages.{stopped, gone-on}
-use Rattle.shelf.specs.Limits.{elementPlace}
 use Rattle.page.specs.Header.{lengthSaid, framed, lengthTested}
 use Rattle.page.proofs.HeaderTests.{frame-passed, length-passed, length-needed}
 use Rattle.page.proofs.HeaderBothWays.{frame-parts}
 use Rattle.configuration_page.specs.Page.{headerPlace}
-use Rattle.configuration_page.specs.Read.{typesOn, headerByte, textPlaceOn, neededLength, fixedOffends, headerOffends, textOffends, offends, firstOffence, bytesTested, configurationRead}
-use Rattle.configuration_page.specs.Configuration.{configurationOf, configurationPut}
-use Rattle.configuration_page.proofs.RowsPut.{length-configuration, told-whole}
+use Rattle.configuration_page.specs.Read.{typesOn, headerByte, neededLength, fixedOffends, headerOffends, textOffends, offends, firstOffence, bytesTested, configurationRead}
 
 pub none-offends : (k b : ℕ) → ((k ≡ 1) ⊎ (k ≡ 9) → ⊥) → (k ≡ 8 → ⊥) → (k ≡ 10 → ⊥) → (k ≡ 11 → ⊥) → false ≡ fixedOffends k b
 unfolding fixedOffends
@@ -58,19 +56,19 @@ pub found : (p : List ℕ) {n : ℕ} → length p ≡ n → firstBelow (offends 
 unfolding firstOffence
 found p e = rw e
 
+-- the headers stand before what else is needed
+pub headers-there : (p : List ℕ) → length p ≡ neededLength p → headerPlace (typesOn p) ≤ length p
+unfolding neededLength
+headers-there p e = omega (arith, start-behind (headerPlace (typesOn p)) (headerByte p 3) (typesOn p))
+
 -- a page without all its headers is shorter than they need
 headers-needed : (p : List ℕ) → leb (headerPlace (typesOn p)) (length p) ≡ false → eqb (length p) (neededLength p) ≡ false
-unfolding neededLength textPlaceOn
-headers-needed p e = let l = leb-false (headerPlace (typesOn p)) (length p) e in ne-eqb (length p) (textPlaceOn p (typesOn p)) (λ q. omega arith)
+headers-needed p e = let l = leb-false (headerPlace (typesOn p)) (length p) e in ne-eqb (length p) (neededLength p) (λ q. omega (arith, headers-there p q))
 
 -- the length that the type list needs
 pub no-headers : (p : List ℕ) → leb (headerPlace (typesOn p)) (length p) ≡ false → Refused PageLength ≡ lengthTested p (neededLength p)
 unfolding lengthTested
 no-headers p e = rw (headers-needed p e)
-
-pub headers-there : (p : List ℕ) → length p ≡ neededLength p → headerPlace (typesOn p) ≤ length p
-unfolding neededLength textPlaceOn
-headers-there p e = omega arith
 
 -- a length that two bytes say
 pub length-small : (p : List ℕ) → ((i : ℕ) → Fits w8 (getD p i 0)) → lengthSaid p ≡ true → Fits w32 (length p)
@@ -129,9 +127,3 @@ module _ (p : List ℕ) where
   parts-read h c s l o =
       let f = frame-passed p 0x01 (le-leb 4 (length p) h) (eq-eqb (getD p 0 0) 0x01 c) s in
       rw (← f, ← length-passed p (neededLength p) l, eq-eqb (firstOffence p) (length p) o)
-
--- what the reader hands over
-pub record-placed : (p c : List ℕ) {o : List ℕ} → length c ≡ elementPlace 0 → o ≡ configurationPut p c → o ≡ placed (configurationOf p) c
-record-placed p c h q =
-    let l = drop-of-length-le c {i = length (configurationOf p)} (omega (arith, length-configuration p)) in
-    q ∙ told-whole p c h ∙ sym (append-nil (configurationOf p)) ∙ ap (λ (r : List ℕ). configurationOf p ++ r) (sym l)

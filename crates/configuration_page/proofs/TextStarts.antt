@@ -1,25 +1,25 @@
 -- What a page tells of a type that it has and past its last, and where the text of each starts. Assumes nothing.
-use mathlib.Core.Path.{_≡_, refl, sym, ap, _∙_}
-use mathlib.Core.List.{List, [], _∷_, _++_, append-assoc, append-nil}
-use Prim.Native.Nat.{ℕ, zero, suc, _+_, _*_, _-_, _<_, _≤_}
-use native.Mathlib.Nat.{add-zero, add-suc, zero-add}
+use mathlib.Core.Path.{_≡_, sym, ap, _∙_}
+use mathlib.Core.List.{List, [], _∷_, _++_}
+use Prim.Native.Nat.{ℕ, _+_, _*_, _-_, _<_, _≤_}
+use native.Mathlib.Nat.{add-zero}
 use native.Mathlib.Omega.{arith}
 use lib.Dec.{ltb}
-use lib.ListN.{length, getD, drop, replicate, length-replicate, replicate-append-replicate}
-use lib.Seq.{drop-at}
+use lib.ListN.{length, getD, replicate}
 use borrow.Author.Tests.{leb-true, lt-ltb, le-ltb, ltb-true, ltb-false}
 use Rattle.bits.specs.Choice.{sumBelow}
 use Rattle.bits.specs.Places.{fourAt}
-use Rattle.bits.specs.Rows.{joined, oneAt, bytesAt, putBytes}
+use Rattle.bits.specs.Rows.{joined, oneAt, bytesAt, rowStart}
 use Rattle.bits.proofs.Logic.{by-case, pick-yes, pick-no}
-use Rattle.bits.proofs.Rows.{joined-same, bytes-next, length-bytes-at}
+use Rattle.bits.proofs.Parts.{zeros-behind}
+use Rattle.bits.proofs.Rows.{joined-same}
+use Rattle.bits.proofs.RowStarts.{row-in, start-bound, start-same}
+use Rattle.bits.proofs.Sums.{sum-same, sum-past}
 use Rattle.refusals.specs.declared.Answer.the-variants.{Accepted}
 use Rattle.shelf.specs.Limits.{mostTypes, mostText}
 use Rattle.configuration_page.specs.Page.{headerPlace}
-use Rattle.configuration_page.specs.Read.{typesOn, headerByte, totalBefore, textPlaceOn, configurationRead}
+use Rattle.configuration_page.specs.Read.{typesOn, headerByte, textPlaceOn, configurationRead}
 use Rattle.configuration_page.specs.Configuration.{toldByte, toldStart, textByte, oneTold, headTold, textTold}
-use Rattle.configuration_page.proofs.WideRows.{sum-same, sum-part, sum-bound, sum-past}
-use Rattle.configuration_page.proofs.Loops.{sum-next}
 use Rattle.configuration_page.proofs.AcceptedPage.{needed-passed, types-passed, text-short}
 
 pub told-byte : (p : List ℕ) (t j : ℕ) → t < typesOn p → toldByte p j t ≡ headerByte p j t
@@ -55,19 +55,13 @@ told-sum p j m h =
     ∙ sum-past (toldByte p j) n (m - n) (λ t l. past-byte p t j l)
     ∙ sum-same (toldByte p j) (headerByte p j) n (λ t l. told-byte p t j l)
 
--- the start of each text, carried on from the type before
-pub start-first : (p : List ℕ) → toldStart p 0 ≡ headerPlace (typesOn p)
-unfolding toldStart
-start-first p = omega arith
-
-pub start-on : (p : List ℕ) (t : ℕ) {a n : ℕ} → a ≡ toldStart p t → n ≡ toldByte p 3 t → a + n ≡ toldStart p (t + 1)
-unfolding toldStart
-start-on p t e q = omega (arith, sum-next (toldByte p 3) t)
-
+-- the texts start where the page has them, and past the last type where they end
 start-there : (p : List ℕ) (t : ℕ) → t < typesOn p → toldStart p t ≡ textPlaceOn p t
-unfolding toldStart textPlaceOn totalBefore
-start-there p t h =
-    ap (λ (k : ℕ). headerPlace (typesOn p) + k) (sum-same (toldByte p 3) (headerByte p 3) t (λ i l. told-byte p i 3 (omega arith)))
+start-there p t h = start-same (headerPlace (typesOn p)) (toldByte p 3) (headerByte p 3) t (λ i l. told-byte p i 3 (omega arith))
+
+start-past : (p : List ℕ) (m : ℕ) → typesOn p ≤ m → toldStart p m ≡ textPlaceOn p (typesOn p)
+unfolding rowStart
+start-past p m h = ap (λ (k : ℕ). headerPlace (typesOn p) + k) (told-sum p 3 m h)
 
 text-byte : (p : List ℕ) (t i : ℕ) → i < toldByte p 3 t → textByte p t i ≡ getD p (toldStart p t + i) 0
 unfolding textByte
@@ -75,16 +69,6 @@ text-byte p t i h =
     pick-yes _ _ _ (lt-ltb i (toldByte p 3 t) h)
     ∙ by-case (ltb t (typesOn p)) (λ e. ap (λ (k : ℕ). getD p (k + i) 0) (sym (start-there p t (ltb-true t (typesOn p) e))))
     (λ e. absurd (omega (arith, past-byte p t 3 (ltb-false t (typesOn p) e))))
-
--- rows that are zero from n on
-zeros-behind : (f : ℕ → List ℕ) (n k : ℕ) → ((i : ℕ) → n ≤ i → f i ≡ 0 ∷ []) → joined f (n + k) ≡ joined f n ++ replicate k 0
-zeros-behind f n zero h = rw (add-zero n) (sym (append-nil (joined f n)))
-zeros-behind f n (suc k) h =
-    let e : k + 1 ≡ suc k = omega arith in
-    ap (joined f) (add-suc n k)
-    ∙ rw (zeros-behind f n k h, h (n + k) (omega arith))
-    (append-assoc (joined f n) (replicate k 0) (0 ∷ [])
-    ∙ ap (λ (r : List ℕ). joined f n ++ r) (replicate-append-replicate k 1 0 ∙ ap (λ (m : ℕ). replicate m 0) e))
 
 -- a text and the zeros behind it
 pub told-text : (p : List ℕ) (t : ℕ) → toldByte p 3 t ≤ mostText
@@ -98,18 +82,6 @@ told-text p t h =
     ∙ ap (λ (r : List ℕ). r ++ replicate (mostText - n) 0)
     (joined-same (oneTold p t) (oneAt p (toldStart p t)) n (λ i l. ap (λ (b : ℕ). b ∷ []) (text-byte p t i l)))
 
--- zeros stand behind what is copied to their front
-pub padded : (p : List ℕ) (k n : ℕ) {o : List ℕ} → n ≤ mostText → o ≡ putBytes (replicate mostText 0) 0 (bytesAt p k n)
-    → o ≡ bytesAt p k n ++ replicate (mostText - n) 0
-padded p k n h e =
-    let z : List ℕ = replicate mostText 0 in
-    let l = length-bytes-at p k n in
-    let m : z ≡ replicate n 0 ++ replicate (mostText - n) 0 = ap (λ (i : ℕ). replicate i 0) (let q : mostText ≡ n + (mostText - n) = omega arith in q) ∙ sym (replicate-append-replicate n (mostText - n) 0) in
-    e
-    ∙ bytes-next [] z (bytesAt p k n) 0 refl (rw l (omega arith))
-    ∙ ap (λ (i : ℕ). bytesAt p k n ++ drop i z) (zero-add (length (bytesAt p k n)) ∙ l)
-    ∙ ap (λ (r : List ℕ). bytesAt p k n ++ r) (ap (drop n) m ∙ drop-at (replicate n 0) (replicate (mostText - n) 0) n (length-replicate n 0))
-
 -- an accepted page has all its texts, and none is too long
 module _ (p : List ℕ) (a : configurationRead p ≡ Accepted) where
   pub few-types : typesOn p ≤ mostTypes
@@ -122,12 +94,11 @@ module _ (p : List ℕ) (a : configurationRead p ≡ Accepted) where
       (λ e. rw (past-byte p t 3 (ltb-false t (typesOn p) e)) (omega arith))
 
   pub told-in : (t : ℕ) → t < mostTypes → toldStart p t + toldByte p 3 t ≤ length p
-  unfolding toldStart textPlaceOn totalBefore
-  told-in t h = omega (arith, needed-passed p a, told-sum p 3 mostTypes few-types, sum-part (toldByte p 3) mostTypes t h)
+  told-in t h =
+      omega (arith, needed-passed p a, start-past p mostTypes few-types, row-in (headerPlace (typesOn p)) (toldByte p 3) mostTypes t h)
 
   pub start-small : (t : ℕ) → toldStart p t ≤ headerPlace mostTypes + mostText * t
-  unfolding toldStart
-  start-small t = omega (arith, few-types, sum-bound (toldByte p 3) mostText t (λ i l. told-short i))
+  start-small t = omega (arith, few-types, start-bound (headerPlace (typesOn p)) (toldByte p 3) mostText t (λ i l. told-short i))
 
   pub text-done : (t : ℕ) {x : List ℕ} {k n : ℕ} → k ≡ toldStart p t → n ≡ toldByte p 3 t → x ≡ bytesAt p k n ++ replicate (mostText - n) 0 → x ≡ textTold p t
   text-done t ek en ex = ex ∙ rw (ek, en) (sym (told-text p t (told-short t)))

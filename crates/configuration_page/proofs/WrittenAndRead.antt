@@ -3,19 +3,22 @@ use mathlib.Core.Path.{_≡_, refl, sym, ap, ap₂, _∙_}
 use mathlib.Core.Bool.{true, false, not}
 use mathlib.Core.List.{List, [], _∷_, _++_, append-nil}
 use mathlib.Core.Logic.{⊎-elim}
-use Prim.Native.Nat.{ℕ, _+_, _*_, _-_, _/_, _%_, _<_, _≤_}
+use Prim.Native.Nat.{ℕ, _+_, _-_, _/_, _%_, _<_, _≤_}
 use native.Mathlib.Nat.{add-zero}
 use native.Mathlib.Omega.{arith}
 use lib.Dec.{eqb, ltb}
-use lib.ListN.{length, getD, take}
+use lib.ListN.{length, getD, take, length-append}
 use lib.Seq.{take-all}
 use borrow.Author.Tests.{le-leb, le-ltb, ltb-true, ltb-false, eq-eqb, eqb-true, eqb-false}
 use Rattle.bits.specs.Bits.{printable}
 use Rattle.bits.specs.Numbers.{big, bytes}
 use Rattle.bits.specs.Places.{twoAt, fourAt}
 use Rattle.bits.specs.Rows.{joined, oneAt, bytesAt}
-use Rattle.bits.proofs.Logic.{and-left, and-right, and-both, pick-yes, pick-no, below-all, fails, first-none}
-use Rattle.bits.proofs.Rows.{joined-same, bytes-get, bytes-there}
+use Rattle.bits.proofs.Every.{every-joined, every-bytes, every-get}
+use Rattle.bits.proofs.Logic.{by-case, and-left, and-right, and-both, pick-yes, pick-no, below-all, fails, first-none}
+use Rattle.bits.proofs.Parts.{pieces, get-behind, bytes-split, bytes-rows}
+use Rattle.bits.proofs.Rows.{joined-same, bytes-get, bytes-there, bytes-same, four-bytes}
+use Rattle.bits.proofs.Sums.{sum-part}
 use Rattle.bits.proofs.Widths.{big-bytes}
 use Rattle.refusals.specs.declared.Answer.the-variants.{Accepted}
 use Rattle.shelf.specs.Limits.{mostTypes, mostElements, mostText, typeSize, typePlace, textPlace, elementPlace}
@@ -24,15 +27,13 @@ use Rattle.shelf_formed.specs.Formed.{frontFormed, wellFormed, configurationFor
 use Rattle.shelf_formed.proofs.ElementPut.{length-formed}
 use Rattle.shelf_formed.proofs.ElementTypes.{front-formed}
 use Rattle.page.specs.Header.{lengthSaid}
-use Rattle.configuration_page.specs.Page.{headerPlace, typeHeader, textOf, textStart, configurationLength, fixedPart, configurationPage}
+use Rattle.configuration_page.specs.Page.{headerPlace, typeHeader, textOf, configurationLength, fixedPart, configurationPage}
 use Rattle.configuration_page.specs.Read.{typesOn, headerByte, totalBefore, textPlaceOn, neededLength, fixedOffends, headerOffends, textOffends, offends, firstOffence, configurationRead}
 use Rattle.configuration_page.specs.Configuration.{toldByte, textByte, oneTold, headTold, textTold, typeTold, configurationOf}
-use Rattle.configuration_page.proofs.WideRows.{pieces, get-behind, bytes-split, bytes-rows, bytes-same, four-bytes, sum-part, every-joined, every-bytes, every-get}
-use Rattle.bits.proofs.Logic.{by-case}
-use Rattle.configuration_page.proofs.RowsPut.{short, length-page, length-texts, not-empty}
+use Rattle.configuration_page.proofs.PartsPut.{short, headers-first, headers-end, length-page}
 use Rattle.configuration_page.proofs.Refusals.{none-offends, parts-read}
 use Rattle.configuration_page.proofs.TextStarts.{told-byte, past-byte}
-use Rattle.configuration_page.proofs.PlacesOnPage.{page-fixed, page-types, page-header, page-counts, page-lengths, page-texts, page-text}
+use Rattle.configuration_page.proofs.PlacesOnPage.{page-fixed, page-types, page-header, page-counts, page-starts, page-texts, page-text}
 use Rattle.shelf_formed.proofs.FormedShelf.{few-elements, in-head, few-types, in-type, text-printable, text-padded, type-clear}
 
 module _ (s : List ℕ) (w : frontFormed s ≡ true) where
@@ -42,15 +43,15 @@ module _ (s : List ℕ) (w : frontFormed s ≡ true) where
   said =
       let m : ℕ = configurationLength s - 4 in
       let l = short s w in
-      let four : 4 ≤ configurationLength s = not-empty s refl in
+      let h = headers-first s refl in
       let e : big (twoAt (configurationPage s) 2) ≡ m =
       ap₂ (λ (x y : ℕ). big (x ∷ y ∷ [])) (page-fixed s 2 (omega arith)) (page-fixed s 3 (omega arith)) ∙ big-bytes 2 m (omega arith) in
       eq-eqb (length (configurationPage s)) (big (twoAt (configurationPage s) 2) + 4)
       (length-page s ∙ rw e (omega arith))
 
   needed : neededLength (configurationPage s) ≡ configurationLength s
-  unfolding neededLength textPlaceOn configurationLength textStart
-  needed = rw (page-types s, page-lengths s (typesOf s) (omega arith))
+  unfolding neededLength configurationLength
+  needed = ap (textPlaceOn (configurationPage s)) (page-types s) ∙ page-starts s (typesOf s) (omega arith)
 
   -- no byte before the headers offends
   ten : fixedOffends 10 (getD (configurationPage s) 10 0) ≡ false
@@ -72,7 +73,7 @@ module _ (s : List ℕ) (w : frontFormed s ≡ true) where
 
   -- none of a header
   module _ (t : ℕ) (h : t < typesOf s) where
-    few-so-far : totalBefore (configurationPage s) 1 t + typeCount s t ≤ mostElements
+    few-so-far : totalBefore (configurationPage s) t + typeCount s t ≤ mostElements
     unfolding elementsOf before
     few-so-far =
         let n = few-types s w in
@@ -109,7 +110,7 @@ module _ (s : List ℕ) (w : frontFormed s ≡ true) where
       h)
 
   fine : (k : ℕ) → k < length (configurationPage s) → offends (configurationPage s) k ≡ false
-  unfolding offends configurationLength textStart
+  unfolding offends configurationPage
   fine k h =
       by-case (ltb k 48) (λ e. pick-yes _ _ _ e ∙ fixed-fine k (ltb-true k 48 e)) (λ e. pick-no _ _ _ e ∙ by-case (ltb k (headerPlace (typesOn p)))
       (λ f. pick-yes _ _ _ f ∙ in-header (ltb-false k 48 e) (rw (page-types s) at (ltb-true k (headerPlace (typesOn p)) f)))
@@ -129,17 +130,18 @@ module _ (s : List ℕ) (w : frontFormed s ≡ true) where
       in-text l =
           let n = typesOf s in
           let i : ℕ = k - headerPlace n in
+          let head : List ℕ = fixedPart s (configurationLength s - 4) ++ joined (typeHeader s) n in
           let e : k ≡ headerPlace n + i = omega arith in
           ap (λ (m : ℕ). textOffends (getD p m 0)) e
           ∙ ap textOffends (page-texts s i)
-          ∙ text-fine i (rw (length-texts s n) (omega (arith, length-page s)))
+          ∙ text-fine i (omega (arith, headers-end s (configurationLength s - 4), length-append head (joined (textOf s) n)))
 
   accepted : configurationRead (configurationPage s) ≡ Accepted
   unfolding firstOffence fixedPart
   accepted =
       let p = configurationPage s in
       let o = first-none (offends p) (length p) (below-all (fails (offends p)) (length p) (λ k l. ap not (fine k l))) in
-      parts-read p (not-empty s (length-page s)) (page-fixed s 0 (omega arith)) said (length-page s ∙ sym needed) o
+      parts-read p (omega (arith, headers-first s (length-page s))) (page-fixed s 0 (omega arith)) said (length-page s ∙ sym needed) o
 
   -- generation code and identification
   told-generation : fourAt (configurationPage s) 4 ≡ fourAt s 0
@@ -235,10 +237,13 @@ module _ (s : List ℕ) (w : frontFormed s ≡ true) where
   unfolding configurationOf
   told-front =
       pieces (told-generation ∙ sym (four-bytes s 0)) told-identification (told-types ∙ sym (four-bytes s 40))
-      (joined-same (typeTold (configurationPage s)) (λ t. bytesAt s (44 + typeSize * t) typeSize) mostTypes told-type ∙ sym (bytes-rows s 44 typeSize mostTypes))
-      ∙ ap (λ (r : List ℕ). r ++ bytesAt s 40 4 ++ bytesAt s 44 (typeSize * mostTypes)) (sym (bytes-split s 0 4 36))
-      ∙ ap (λ (r : List ℕ). r ++ bytesAt s 44 (typeSize * mostTypes)) (sym (bytes-split s 0 40 4))
-      ∙ sym (bytes-split s 0 44 (typeSize * mostTypes))
+      (joined-same (typeTold (configurationPage s)) row mostTypes told-type)
+      ∙ ap (λ (r : List ℕ). r ++ bytesAt s 40 4 ++ joined row mostTypes) (sym (bytes-split s 0 4 36))
+      ∙ ap (λ (r : List ℕ). r ++ joined row mostTypes) (sym (bytes-split s 0 40 4))
+      ∙ sym (bytes-rows s typePlace (λ t. typeSize) (λ t. omega arith) mostTypes)
+    where
+      row : ℕ → List ℕ
+      row t = bytesAt s (typePlace t) typeSize
 
   -- a front is read back as it was
   pub read-back : elementPlace 0 ≤ length s

@@ -1,12 +1,12 @@
 -- The configuration that a page p tells: the front that a shelf with this page has. Assumes nothing.
 use mathlib.Core.List.{List, [], _∷_, _++_}
-use Prim.Native.Nat.{ℕ, zero, suc, _+_}
+use Prim.Native.Nat.{ℕ, _+_}
 use lib.Dec.{ltb}
 use lib.ListN.{getD}
-use Rattle.bits.specs.Choice.{pick, sumBelow}
-use Rattle.bits.specs.Places.{fourAt, putFour}
-use Rattle.bits.specs.Rows.{joined, bytesAt, putBytes}
-use Rattle.shelf.specs.Limits.{mostTypes, mostText, typePlace, textPlace}
+use Rattle.bits.specs.Choice.{pick}
+use Rattle.bits.specs.Places.{fourAt}
+use Rattle.bits.specs.Rows.{joined, bytesAt, rowStart}
+use Rattle.shelf.specs.Limits.{mostTypes, mostText}
 use Rattle.configuration_page.specs.Page.{headerPlace}
 use Rattle.configuration_page.specs.Read.{typesOn, headerByte, textPlaceOn}
 
@@ -15,8 +15,8 @@ unfoldable pub toldByte : List ℕ → ℕ → ℕ → ℕ
 toldByte p j t = pick (ltb t (typesOn p)) (headerByte p j t) 0
 
 -- where the text of type t starts; past the last type, where all texts end
-unfoldable pub toldStart : List ℕ → ℕ → ℕ
-toldStart p t = headerPlace (typesOn p) + sumBelow (toldByte p 3) t
+abbrev pub toldStart : List ℕ → ℕ → ℕ
+toldStart p t = rowStart (headerPlace (typesOn p)) (toldByte p 3) t
 
 -- byte i of the text of type t, zero past its end
 unfoldable pub textByte : List ℕ → ℕ → ℕ → ℕ
@@ -38,17 +38,3 @@ typeTold p t = headTold p t ++ textTold p t
 -- generation code, identification, number of types, three zeros, and the types
 unfoldable pub configurationOf : List ℕ → List ℕ
 configurationOf p = fourAt p 4 ++ bytesAt p 12 36 ++ (typesOn p ∷ 0 ∷ 0 ∷ 0 ∷ []) ++ joined (typeTold p) mostTypes
-
--- the parts put into a list, one after the other; each row only where it fits
-unfoldable pub typePut : List ℕ → ℕ → List ℕ → List ℕ
-typePut p t c = putBytes (putFour c (typePlace t) (headTold p t)) (textPlace t) (textTold p t)
-
-abbrev pub typesPut : List ℕ → List ℕ → ℕ → List ℕ
-typesPut p c zero = c
-typesPut p c (suc t) = typePut p t (typesPut p c t)
-
-unfoldable pub configurationPut : List ℕ → List ℕ → List ℕ
-configurationPut p c =
-    typesPut p
-    (putFour (putBytes (putFour c 0 (fourAt p 4)) 4 (bytesAt p 12 36)) 40 (typesOn p ∷ 0 ∷ 0 ∷ 0 ∷ []))
-    mostTypes

@@ -1,10 +1,9 @@
 -- The configuration page of a front s, a shelf block or a configuration. Assumes nothing.
 use mathlib.Core.List.{List, [], _∷_, _++_}
-use Prim.Native.Nat.{ℕ, zero, suc, _+_, _*_, _-_}
-use Rattle.bits.specs.Choice.{sumBelow}
+use Prim.Native.Nat.{ℕ, _+_, _*_, _-_}
 use Rattle.bits.specs.Numbers.{bytes}
-use Rattle.bits.specs.Places.{fourAt, putFour}
-use Rattle.bits.specs.Rows.{joined, bytesAt, putBytes}
+use Rattle.bits.specs.Places.{fourAt}
+use Rattle.bits.specs.Rows.{joined, bytesAt, rowStart}
 use Rattle.shelf.specs.Limits.{textPlace}
 use Rattle.shelf.specs.Types.{typesOf, typeCode, typeCount, textLength}
 
@@ -20,8 +19,8 @@ unfoldable pub textOf : List ℕ → ℕ → List ℕ
 textOf s t = bytesAt s (textPlace t) (textLength s t)
 
 -- the text of type t stands behind all headers and the texts before it
-unfoldable pub textStart : List ℕ → ℕ → ℕ
-textStart s t = headerPlace (typesOf s) + sumBelow (textLength s) t
+abbrev pub textStart : List ℕ → ℕ → ℕ
+textStart s t = rowStart (headerPlace (typesOf s)) (textLength s) t
 
 unfoldable pub configurationLength : List ℕ → ℕ
 configurationLength s = textStart s (typesOf s)
@@ -33,19 +32,3 @@ fixedPart s n = ((0x01 ∷ 0 ∷ bytes 2 n) ++ fourAt s 0 ++ (0x11 ∷ 0 ∷ typ
 
 unfoldable pub configurationPage : List ℕ → List ℕ
 configurationPage s = fixedPart s (configurationLength s - 4) ++ joined (typeHeader s) (typesOf s) ++ joined (textOf s) (typesOf s)
-
--- the three parts put into a list, one after the other; each row only where it fits
-unfoldable pub fixedPut : List ℕ → ℕ → List ℕ → List ℕ
-fixedPut s n out =
-    putBytes
-    (putFour (putFour (putFour out 0 (0x01 ∷ 0 ∷ bytes 2 n)) 4 (fourAt s 0)) 8 (0x11 ∷ 0 ∷ typesOf s ∷ 0x24 ∷ []))
-    12
-    (bytesAt s 4 36)
-
-abbrev pub headersPut : List ℕ → List ℕ → ℕ → List ℕ
-headersPut s out zero = out
-headersPut s out (suc t) = putFour (headersPut s out t) (headerPlace t) (typeHeader s t)
-
-abbrev pub textsPut : List ℕ → List ℕ → ℕ → List ℕ
-textsPut s out zero = out
-textsPut s out (suc t) = putBytes (textsPut s out t) (textStart s t) (textOf s t)

@@ -6,6 +6,7 @@ use lib.Dec.{eqb, leb, ltb}
 use lib.ListN.{length, getD}
 use Rattle.bits.specs.Bits.{printable}
 use Rattle.bits.specs.Choice.{pick, firstBelow, sumBelow}
+use Rattle.bits.specs.Rows.{rowStart}
 use Rattle.element.specs.Types.{served}
 use Rattle.refusals.specs.declared.Refusal.the-variants.{NotAllowed}
 use Rattle.refusals.specs.declared.Answer.{Answer}
@@ -22,13 +23,13 @@ typesOn p = getD p 10 0
 abbrev pub headerByte : List ℕ → ℕ → ℕ → ℕ
 headerByte p j t = getD p (headerPlace t + j) 0
 
--- the sum of byte j of the first n headers
-unfoldable pub totalBefore : List ℕ → ℕ → ℕ → ℕ
-totalBefore p j n = sumBelow (headerByte p j) n
+-- the counts of the first n types together
+unfoldable pub totalBefore : List ℕ → ℕ → ℕ
+totalBefore p n = sumBelow (headerByte p 1) n
 
 -- the text of type t stands behind all headers and the texts before it
-unfoldable pub textPlaceOn : List ℕ → ℕ → ℕ
-textPlaceOn p t = headerPlace (typesOn p) + totalBefore p 3 t
+abbrev pub textPlaceOn : List ℕ → ℕ → ℕ
+textPlaceOn p t = rowStart (headerPlace (typesOn p)) (headerByte p 3) t
 
 -- the length that the type list needs. A page with fewer than 48 bytes, or too few for its headers, is shorter than that
 unfoldable pub neededLength : List ℕ → ℕ
@@ -46,7 +47,7 @@ fixedOffends k b =
 unfoldable pub headerOffends : List ℕ → ℕ → ℕ → ℕ → Bool
 headerOffends p t j b =
     pick (eqb j 0) (not (served b))
-    (pick (eqb j 1) (not (leb b mostInType && leb (totalBefore p 1 t + b) mostElements))
+    (pick (eqb j 1) (not (leb b mostInType && leb (totalBefore p t + b) mostElements))
     (pick (eqb j 2) (not (eqb b 0)) (not (leb b mostText))))
 
 -- b in a text

@@ -16,14 +16,14 @@ ghost use lib.Dec.{leb};
 ghost use lib.ListN.{length, replicate};
 ghost use Rattle.bits.specs.Choice.{firstBelow};
 ghost use Rattle.bits.specs.Places.{fourAt};
-ghost use Rattle.bits.specs.Rows.{bytesAt};
+ghost use Rattle.bits.specs.Rows.{bytesAt, putBytes, rowsPut};
 ghost use Rattle.refusals.specs.declared.Answer.the-variants.{Accepted};
 ghost use Rattle.refusals.specs.Outcomes.{placed, HandsBack};
-ghost use Rattle.shelf.specs.Limits.{mostTypes, mostText, elementPlace, HasTypes};
+ghost use Rattle.shelf.specs.Limits.{mostTypes, mostText, typePlace, elementPlace, HasTypes};
 ghost use Rattle.page.specs.Header.{lengthSaid, lengthTested};
 ghost use Rattle.configuration_page.specs.Page.{headerPlace};
 ghost use Rattle.configuration_page.specs.Read.{typesOn, neededLength, textOffends, offends, offenceBelow, bytesTested, configurationRead};
-ghost use Rattle.configuration_page.specs.Configuration.{toldByte, headTold, toldStart, typePut, typesPut, configurationOf};
+ghost use Rattle.configuration_page.specs.Configuration.{toldByte, headTold, toldStart, typeTold, configurationOf};
 
 // Where a page has the number of types.
 const TYPES: u32 = 10;
@@ -230,7 +230,7 @@ fn put_type(page: &[u8], t: u16, start: u32, configuration: &mut [u8]) -> u32
     requires { ⌜ start ≡ toldStart (now page) t ⌝ }
     requires { ⌜ HasTypes (now configuration) ⌝ }
     ensures { λ r. ⌜ r ≡ toldByte (now (page .entry)) 3 t ⌝ }
-    ensures { λ _. ⌜ now (configuration .exit) ≡ typePut (now (page .entry)) t (now (configuration .entry)) ⌝ }
+    ensures { λ _. ⌜ now (configuration .exit) ≡ putBytes (now (configuration .entry)) (typePlace t) (typeTold (now (page .entry)) t) ⌝ }
 {
     let head = head_told(page, t);
     let bytes = head[2] as u32;
@@ -249,7 +249,7 @@ fn put_type(page: &[u8], t: u16, start: u32, configuration: &mut [u8]) -> u32
 fn put_types(page: &[u8], configuration: &mut [u8])
     requires { ⌜ configurationRead (now page) ≡ Accepted ⌝ }
     requires { ⌜ HasTypes (now configuration) ⌝ }
-    ensures { λ _. ⌜ now (configuration .exit) ≡ typesPut (now (page .entry)) (now (configuration .entry)) mostTypes ⌝ }
+    ensures { λ _. ⌜ now (configuration .exit) ≡ rowsPut typePlace (typeTold (now (page .entry))) (now (configuration .entry)) mostTypes ⌝ }
 {
     let mut start = writing::header_place(types_on(page));
     let mut t: u16 = 0;

@@ -7,12 +7,14 @@ use shelf::types;
 ghost use mathlib.Core.Path.{_≡_};
 ghost use Prim.Native.Nat.{_≤_};
 ghost use lib.ListN.{length};
+ghost use Rattle.bits.specs.Places.{foursPut};
+ghost use Rattle.bits.specs.Rows.{rowsPut};
 ghost use Rattle.refusals.specs.declared.Answer.the-variants.{Accepted};
 ghost use Rattle.refusals.specs.Outcomes.{placed, WritesPage};
 ghost use Rattle.shelf.specs.Limits.{mostTypes, HasTypes};
 ghost use Rattle.shelf.specs.Types.{typesOf};
 ghost use Rattle.shelf_formed.specs.Formed.{HasFront};
-ghost use Rattle.configuration_page.specs.Page.{headerPlace, configurationLength, fixedPut, headersPut, textsPut, configurationPage};
+ghost use Rattle.configuration_page.specs.Page.{headerPlace, typeHeader, textOf, textStart, configurationLength, fixedPart, configurationPage};
 
 pub const CODE: u8 = 0x01;
 
@@ -50,7 +52,7 @@ fn length(front: &[u8]) -> u32
 fn put_fixed(front: &[u8], n: u32, out: &mut [u8])
     requires { ⌜ HasTypes (now front) ⌝ }
     requires { ⌜ headerPlace 0 ≤ length (now out) ⌝ }
-    ensures { λ _. ⌜ now (out .exit) ≡ fixedPut (now (front .entry)) n (now (out .entry)) ⌝ }
+    ensures { λ _. ⌜ now (out .exit) ≡ placed (fixedPart (now (front .entry)) n) (now (out .entry)) ⌝ }
 {
     let first = [CODE, 0, (n / 256 % 256) as u8, (n % 256) as u8];
     let third = [PROCESS, 0, bits::byte_at(front, limits::TYPES), DESCRIPTOR];
@@ -70,7 +72,7 @@ fn put_headers(front: &[u8], n: u16, out: &mut [u8])
     requires { ⌜ HasTypes (now front) ⌝ }
     requires { ⌜ n ≤ mostTypes ⌝ }
     requires { ⌜ headerPlace n ≤ length (now out) ⌝ }
-    ensures { λ _. ⌜ now (out .exit) ≡ headersPut (now (front .entry)) (now (out .entry)) n ⌝ }
+    ensures { λ _. ⌜ now (out .exit) ≡ foursPut headerPlace (typeHeader (now (front .entry))) (now (out .entry)) n ⌝ }
 {
     let mut t: u16 = 0;
     while t < n {
@@ -90,7 +92,7 @@ fn put_texts(front: &[u8], n: u16, out: &mut [u8])
     requires { ⌜ HasFront (now front) ⌝ }
     requires { ⌜ n ≡ typesOf (now front) ⌝ }
     requires { ⌜ configurationLength (now front) ≤ length (now out) ⌝ }
-    ensures { λ _. ⌜ now (out .exit) ≡ textsPut (now (front .entry)) (now (out .entry)) n ⌝ }
+    ensures { λ _. ⌜ now (out .exit) ≡ rowsPut (textStart (now (front .entry))) (textOf (now (front .entry))) (now (out .entry)) n ⌝ }
 {
     let mut at = header_place(n);
     let mut t: u16 = 0;

@@ -2,8 +2,7 @@
 use native.Mathlib.Omega.{arith}
 use denote.Ref.{now}
 use Rattle.configuration_page.proofs.AcceptedPage.{headers-in}
-use Rattle.configuration_page.proofs.Loops.{parts-done}
-use Rattle.configuration_page.proofs.Refusals.{record-placed}
+use Rattle.configuration_page.proofs.PartsPut.{record-placed}
 use borrow.Author.Needs.{needs}
 use Rattle.configuration_page.proofs.reading.hand_over.Statement.{statement}
 use Rattle.configuration_page.proofs.reading.hand_over.Tie as tie
@@ -38,16 +37,13 @@ same-length c = search needs
 returns : tie.Need-returns
 returns c =
     let s = c .before .before .before .before .before .before .before .before .before .before .before .before .before .before .before .before .before
-    .before .before .before .args in
-    let q = parts-done (now (s .page)) (now (s .configuration))
+    .before .before .before in
+    record-placed (now (s .args .page)) (now (s .args .configuration)) (omega (arith, s .pre .1))
     (c .before .before .before .before .before .before .before .before .before .before .before .before .before .before .before .before .before .byte-at .ensures)
     (c .before .before .before .before .before .before .before .before .before .before .before .before .before .before .before .four-at .ensures)
     (c .before .before .before .before .before .before .before .before .before .before .before .before .before .before .put-four .ensures)
     (c .before .before .before .before .before .before .before .before .before .before .copy .ensures)
-    (c .before .before .before .before .before .before .put-four2 .ensures) (c .before .before .put-types .ensures) in
-    record-placed (now (s .page)) (now (s .configuration))
-    (c .before .before .before .before .before .before .before .before .before .before .before .before .before .before .before .before .before .before .before .before .pre .1)
-    q
+    (c .before .before .before .before .before .before .put-four2 .ensures) (c .before .before .put-types .ensures)
 
 pub hand-over-spec : {M : Type 1} → statement M
 hand-over-spec =

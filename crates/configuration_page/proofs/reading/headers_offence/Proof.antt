@@ -18,13 +18,13 @@ use Rattle.configuration_page.proofs.reading.headers_offence.Statement.
 use Rattle.configuration_page.proofs.reading.headers_offence.Tie as tie
 
 abbrev Inv-loop : tie.InvT-loop
-Inv-loop page n elements₀ t₀ elements t = (t ≤ n) × (elements ≤ mostElements) × (elements ≡ totalBefore page 1 t) × (allBelow (fails (offends page)) (headerPlace t) ≡ true)
+Inv-loop page n elements₀ t₀ elements t = (t ≤ n) × (elements ≤ mostElements) × (elements ≡ totalBefore page t) × (allBelow (fails (offends page)) (headerPlace t) ≡ true)
 
 abbrev μ-loop : tie.MeasureT-loop
 μ-loop page n elements₀ t₀ elements t = n - t
 
 loop-holds : tie.Need-loop-holds Inv-loop μ-loop
-loop-holds c = let s = c .before in (omega arith, omega arith, sym (total-none _ 1), none-yet (now (s .args .page)) (headerPlace 0) (s .pre .1 .1))
+loop-holds c = let s = c .before in (omega arith, omega arith, sym (total-none _), none-yet (now (s .args .page)) (headerPlace 0) (s .pre .1 .1))
 
 header-on-requires : tie.Need-header-on-requires Inv-loop μ-loop
 header-on-requires c κs = let s = c .before .before .before in let l = c .before .loop .t in let m = c .loop-test .taken in let r = s .pre .1 .0 in omega arith

@@ -3,10 +3,9 @@ use mathlib.Core.Path.{_≡_, sym, ap, _∙_}
 use mathlib.Core.List.{List}
 use Prim.Native.Nat.{ℕ, _≤_, _-_, _+_, _*_}
 use native.Mathlib.Omega.{arith}
-use denote.Ref.{now}
 use lib.ListN.{getD}
 use Rattle.configuration_page.specs.Read.{textPlaceOn, neededLength}
-use Rattle.configuration_page.proofs.Loops.{place-none, place-next}
+use Rattle.bits.proofs.RowStarts.{start-first, start-next}
 use borrow.Author.Needs.{needs}
 use Rattle.configuration_page.proofs.reading.needed_length.Statement.{statement}
 use Rattle.configuration_page.proofs.reading.needed_length.Tie as tie
@@ -24,7 +23,7 @@ header-place-requires : tie.Need-header-place-requires Inv-loop μ-loop
 header-place-requires c κs = search needs
 
 loop-holds : tie.Need-loop-holds Inv-loop μ-loop
-loop-holds c = (omega arith, omega arith, c .header-place .ensures ∙ rw (c .before .types-on .ensures) (sym (place-none _)))
+loop-holds c = (omega arith, omega arith, c .header-place .ensures ∙ rw (c .before .types-on .ensures) (sym (start-first _ _)))
 
 header-on-requires : tie.Need-header-on-requires Inv-loop μ-loop
 header-on-requires c κs = search needs
@@ -45,7 +44,7 @@ loop-less : tie.Need-loop-less Inv-loop μ-loop
 loop-less c = search needs
 
 loop-again : tie.Need-loop-again Inv-loop μ-loop
-loop-again c = let s = c .before .before .before .before .before .before .args in let l = c .before .before .loop in let e = ap (λ (e : List ℕ). getD e 3 0) (c .header-on .ensures) in (omega arith, omega (arith, c .before .before .before .before .before .shared-slice-known .given (48 + 4 * l .t + 3)), place-next (now (s .page)) (l .t) (l .inv .2) e)
+loop-again c = let l = c .before .before .loop in let e = ap (λ (e : List ℕ). getD e 3 0) (c .header-on .ensures) in (omega arith, omega (arith, c .before .before .before .before .before .shared-slice-known .given (48 + 4 * l .t + 3)), start-next _ _ (l .t) (l .inv .2) e)
 
 returns : tie.Need-returns Inv-loop μ-loop
 unfolding neededLength

@@ -2,7 +2,7 @@
 use denote.Ref.{now}
 use Rattle.configuration_page.proofs.AcceptedPage.{headers-in}
 use Rattle.configuration_page.proofs.TextStarts.{head-length, told-short, told-in, text-done}
-use Rattle.configuration_page.proofs.Loops.{type-done}
+use Rattle.configuration_page.proofs.PartsPut.{type-put}
 use borrow.Author.Needs.{needs}
 use Rattle.configuration_page.proofs.reading.put_type.Statement.{statement}
 use Rattle.configuration_page.proofs.reading.put_type.Tie as tie
@@ -52,7 +52,7 @@ returns c =
     let n = head-length p (s .args .t) h in
     let x = c .before .before .before .before .before .before .before .before .before .before .before .text-told .ensures in
     let t = text-done p (s .pre .0) (s .args .t) (s .pre .1 .1 .0) n x in
-    let o = type-done p (s .args .t) (now (s .args .configuration)) h t
+    let o = type-put p (s .args .t) (now (s .args .configuration)) (s .pre .1 .0) (s .pre .1 .1 .1) h t
     (c .before .before .before .before .before .before .before .before .before .type-place .ensures)
     (c .before .before .before .before .before .before .before .before .put-four .ensures)
     (c .before .before .before .text-place .ensures) (c .before .before .copy .ensures) in

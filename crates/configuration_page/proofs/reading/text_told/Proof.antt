@@ -1,6 +1,10 @@
 -- `configuration_page::reading::text_told` meets its contract. Assumes nothing.
+use mathlib.Core.Path.{_∙_}
 use denote.Ref.{now}
-use Rattle.configuration_page.proofs.TextStarts.{padded}
+use Rattle.bits.specs.Rows.{bytesAt}
+use Rattle.bits.proofs.Rows.{length-bytes-at}
+use Rattle.bits.proofs.RowsPut.{put-zeros}
+use Rattle.shelf.specs.Limits.{mostText}
 use borrow.Author.Needs.{needs}
 use Rattle.configuration_page.proofs.reading.text_told.Statement.{statement}
 use Rattle.configuration_page.proofs.reading.text_told.Tie as tie
@@ -12,7 +16,11 @@ copy-requires : tie.Need-copy-requires
 copy-requires c κs = search needs
 
 returns : tie.Need-returns
-returns c = let s = c .before .before .before .before in padded (now (s .args .page)) (s .args .start) (s .args .n) (s .pre .1) (c .before .copy .ensures)
+returns c =
+    let s = c .before .before .before .before in
+    let p = now (s .args .page) in
+    let n = s .args .n in
+    c .before .copy .ensures ∙ put-zeros (bytesAt p (s .args .start) n) n mostText (length-bytes-at p (s .args .start) n) (s .pre .1)
 
 pub text-told-spec : {M : Type 1} → statement M
 text-told-spec = tie.close (tie.spec slice-aggregate-copy copy-requires returns)

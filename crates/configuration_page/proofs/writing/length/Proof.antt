@@ -5,7 +5,7 @@ use native.Mathlib.Omega.{arith}
 use denote.Ref.{now}
 use Rattle.shelf_formed.proofs.FormedShelf.{few-types}
 use Rattle.configuration_page.specs.Page.{textStart, configurationLength}
-use Rattle.configuration_page.proofs.Loops.{start-none, start-next}
+use Rattle.bits.proofs.RowStarts.{start-first, start-next}
 use borrow.Author.Needs.{needs}
 use Rattle.configuration_page.proofs.writing.length.Statement.{statement}
 use Rattle.configuration_page.proofs.writing.length.Tie as tie
@@ -23,7 +23,7 @@ header-place-requires : tie.Need-header-place-requires Inv-loop μ-loop
 header-place-requires c κs = search needs
 
 loop-holds : tie.Need-loop-holds Inv-loop μ-loop
-loop-holds c = (omega arith, omega arith, c .header-place .ensures ∙ rw (c .before .count .ensures) (sym (start-none _)))
+loop-holds c = (omega arith, omega arith, c .header-place .ensures ∙ rw (c .before .count .ensures) (sym (start-first _ _)))
 
 text-length-requires : tie.Need-text-length-requires Inv-loop μ-loop
 text-length-requires c κs = let s = c .before .before .before .before .before in omega (arith, few-types (now (s .args .front)) (s .pre .0))
@@ -41,7 +41,7 @@ loop-less : tie.Need-loop-less Inv-loop μ-loop
 loop-less c = search needs
 
 loop-again : tie.Need-loop-again Inv-loop μ-loop
-loop-again c = let s = c .before .before .before .before .before .before .args in let l = c .before .before .loop in (omega arith, omega arith, start-next (now (s .front)) (l .t) (l .inv .2) (c .text-length .ensures))
+loop-again c = let l = c .before .before .loop in (omega arith, omega arith, start-next _ _ (l .t) (l .inv .2) (c .text-length .ensures))
 
 returns : tie.Need-returns Inv-loop μ-loop
 unfolding configurationLength

@@ -1,5 +1,5 @@
 -- `configuration_page::writing::put_fixed` meets its contract. Assumes nothing.
-use Rattle.configuration_page.proofs.Loops.{fixed-done}
+use Rattle.configuration_page.proofs.PartsPut.{fixed-placed}
 use denote.Ref.{now}
 use borrow.Author.Needs.{needs}
 use Rattle.configuration_page.proofs.writing.put_fixed.Statement.{statement}
@@ -38,8 +38,8 @@ same-length c = search needs
 returns : tie.Need-returns
 returns c =
     let s = c .before .before .before .before .before .before .before .before .before .before .before .before .before .before .before .before .before
-    .before .before .before .args in
-    fixed-done (now (s .front)) (s .n) (now (s .out))
+    .before .before .before in
+    fixed-placed (now (s .args .front)) (s .args .n) (now (s .args .out)) (s .pre .1)
     (c .before .before .before .before .before .before .before .before .before .before .before .before .before .before .before .before .before .byte-at .ensures)
     (c .before .before .before .before .before .before .before .before .before .before .before .before .before .before .before .put-four .ensures)
     (c .before .before .before .before .before .before .before .before .before .before .before .four-at .ensures)

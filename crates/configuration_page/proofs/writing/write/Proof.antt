@@ -1,5 +1,5 @@
 -- `configuration_page::writing::write` meets its contract. Assumes nothing.
-use Rattle.configuration_page.proofs.RowsPut.{length-page}
+use Rattle.configuration_page.proofs.PartsPut.{length-page}
 use Rattle.configuration_page.specs.Page.{configurationPage}
 use Rattle.refusals.proofs.Left.{write-room, write-short, write-put}
 use Rattle.refusals.specs.declared.Answer.the-variants.{Accepted}

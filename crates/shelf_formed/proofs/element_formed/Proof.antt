@@ -28,7 +28,12 @@ fields-formed-requires : tie.Need-fields-formed-requires
 fields-formed-requires c κs = search needs
 
 returns-2 : tie.Need-returns-2
-returns-2 c = let q = c .before .before .before .before .before .before .before .before in let s = q .args in judged (now (s .shelf)) (s .j) (q .pre .1) (c .before .before .before .before .before .before .spare-clear .ensures) (not-false _ (c .before .before .before .before .before .if1 .left)) (c .before .before .before .before .settings-at .ensures) (c .before .before .before .thresholds-at .ensures) (c .before .before .reading-at .ensures) (c .before .nominal-at .ensures) (c .fields-formed .ensures)
+returns-2 c =
+    let q = c .before .before .before .before .before .before .before .before in
+    judged (now (q .args .shelf)) (q .args .j) (q .pre .1) (c .before .before .before .before .before .before .spare-clear .ensures)
+    (not-false _ (c .before .before .before .before .before .if1 .left)) (c .before .before .before .before .settings-at .ensures)
+    (c .before .before .before .thresholds-at .ensures) (c .before .before .reading-at .ensures) (c .before .nominal-at .ensures)
+    (c .fields-formed .ensures)
 
 pub element-formed-spec : {M : Type 1} → statement M
 element-formed-spec =

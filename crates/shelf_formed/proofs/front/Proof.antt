@@ -18,10 +18,18 @@ types-formed-requires : tie.Need-types-formed-requires
 types-formed-requires c κs = search needs
 
 returns : tie.Need-returns
-returns c = let s = now (c .before .before .before .before .before .before .args .shelf) in front-yes s (c .before .before .before .before .count .ensures) (c .before .before .before .all-elements .ensures) (front-is s (c .before .before .head-formed .ensures) (c .before .before .before .before .count .ensures) (c .before .types-formed .ensures) (c .before .before .before .all-elements .ensures) (c .if1 .taken))
+returns c =
+    let s = now (c .before .before .before .before .before .before .args .shelf) in
+    let types = c .before .before .before .before .count .ensures in
+    let elements = c .before .before .before .all-elements .ensures in
+    front-yes s types elements (front-is s (c .before .before .head-formed .ensures) types (c .before .types-formed .ensures) elements (c .if1 .taken))
 
 returns-2 : tie.Need-returns-2
-returns-2 c = let s = now (c .before .before .before .before .before .before .args .shelf) in front-no s (front-is s (c .before .before .head-formed .ensures) (c .before .before .before .before .count .ensures) (c .before .types-formed .ensures) (c .before .before .before .all-elements .ensures) (c .if1 .left))
+returns-2 c =
+    let s = now (c .before .before .before .before .before .before .args .shelf) in
+    let types = c .before .before .before .before .count .ensures in
+    let elements = c .before .before .before .all-elements .ensures in
+    front-no s (front-is s (c .before .before .head-formed .ensures) types (c .before .types-formed .ensures) elements (c .if1 .left))
 
 pub front-spec : {M : Type 1} → statement M
 front-spec =

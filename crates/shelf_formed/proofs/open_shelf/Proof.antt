@@ -33,7 +33,11 @@ elements-formed-requires : tie.Need-elements-formed-requires
 elements-formed-requires c κs = search needs
 
 returns-4 : tie.Need-returns-4
-returns-4 c = let s = now (c .before .before .before .before .before .before .before .before .before .before .args .shelf) in all-passed s (sym (c .before .before .before .before .before .before .before .front .ensures) ∙ c .before .before .before .before .before .front2 .given .1) (eq-eqb (length s) _ (c .before .before .if2 .left ∙ c .before .before .before .block-length .ensures)) (sym (c .before .elements-formed .ensures) ∙ c .if3 .taken)
+returns-4 c =
+    let s = now (c .before .before .before .before .before .before .before .before .before .before .args .shelf) in
+    all-passed s (sym (c .before .before .before .before .before .before .before .front .ensures) ∙ c .before .before .before .before .before .front2 .given .1)
+    (eq-eqb (length s) _ (c .before .before .if2 .left ∙ c .before .before .before .block-length .ensures))
+    (sym (c .before .elements-formed .ensures) ∙ c .if3 .taken)
 
 returns-5 : tie.Need-returns-5
 returns-5 c = let s = now (c .before .before .before .before .before .before .before .before .before .before .args .shelf) in no-elements s (sym (c .before .before .before .before .before .before .before .front .ensures) ∙ c .before .before .before .before .before .front2 .given .1) (sym (c .before .elements-formed .ensures) ∙ c .if3 .left)

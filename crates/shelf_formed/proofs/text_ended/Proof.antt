@@ -37,7 +37,14 @@ byte-at-requires c κs = search needs
 
 returns : tie.Need-returns Inv-loop μ-loop
 unfolding textFormed
-returns c = let q = c .before .before .before .before .before .before in let s = q .args in let l = c .before .before .before .before .loop in sym (below-fails (textByteFormed (now (s .shelf)) (s .t)) mostText (l .i) (c .before .before .before .loop-test .taken) (sym (byte-ended (now (s .shelf)) (s .t) (q .pre .1 .1 .0) (l .i) (l .inv .0) (c .before .before .text-place .ensures) (c .before .byte-at .ensures)) ∙ ne-eqb (c .before .byte-at .result) 0 (c .if1 .taken)))
+returns c =
+    let q = c .before .before .before .before .before .before in
+    let s = now (q .args .shelf) in
+    let t = q .args .t in
+    let l = c .before .before .before .before .loop in
+    let e = byte-ended s t (q .pre .1 .1 .0) (l .i) (l .inv .0) (c .before .before .text-place .ensures) (c .before .byte-at .ensures) in
+    let no = ne-eqb (c .before .byte-at .result) 0 (c .if1 .taken) in
+    sym (below-fails (textByteFormed s t) mostText (l .i) (c .before .before .before .loop-test .taken) (sym e ∙ no))
 
 add-i : tie.Need-add-i Inv-loop μ-loop
 add-i c = omega arith
@@ -46,7 +53,14 @@ loop-less : tie.Need-loop-less Inv-loop μ-loop
 loop-less c = omega arith
 
 loop-again : tie.Need-loop-again Inv-loop μ-loop
-loop-again c = let q = c .before .before .before .before .before .before in let s = q .args in let l = c .before .before .before .before .loop in (omega arith, omega arith, below-next (textByteFormed (now (s .shelf)) (s .t)) (l .i) (l .inv .2) (sym (byte-ended (now (s .shelf)) (s .t) (q .pre .1 .1 .0) (l .i) (l .inv .0) (c .before .before .text-place .ensures) (c .before .byte-at .ensures)) ∙ eq-eqb (c .before .byte-at .result) 0 (c .if1 .left)))
+loop-again c =
+    let q = c .before .before .before .before .before .before in
+    let s = now (q .args .shelf) in
+    let t = q .args .t in
+    let l = c .before .before .before .before .loop in
+    let e = byte-ended s t (q .pre .1 .1 .0) (l .i) (l .inv .0) (c .before .before .text-place .ensures) (c .before .byte-at .ensures) in
+    let yes = eq-eqb (c .before .byte-at .result) 0 (c .if1 .left) in
+    (omega arith, omega arith, below-next (textByteFormed s t) (l .i) (l .inv .2) (sym e ∙ yes))
 
 returns-2 : tie.Need-returns-2 Inv-loop μ-loop
 unfolding textFormed

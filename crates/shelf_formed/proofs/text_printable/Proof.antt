@@ -38,7 +38,14 @@ is-printable-requires : tie.Need-is-printable-requires Inv-loop μ-loop
 is-printable-requires c κs = search needs
 
 returns : tie.Need-returns Inv-loop μ-loop
-returns c = let q = c .before .before .before .before .before .before .before in let s = q .args in let l = c .before .before .before .before .before .loop in sym (below-fails (textByteFormed (now (s .shelf)) (s .t)) (s .n) (l .i) (c .before .before .before .before .loop-test .taken) (sym (byte-printable (now (s .shelf)) (s .t) (q .pre .1 .1) (l .i) (c .before .before .before .before .loop-test .taken) (c .before .before .before .text-place .ensures) (c .before .before .byte-at .ensures)) ∙ sym (c .before .is-printable .ensures) ∙ not-true _ (c .if1 .taken)))
+returns c =
+    let q = c .before .before .before .before .before .before .before in
+    let s = now (q .args .shelf) in
+    let t = q .args .t in
+    let i = c .before .before .before .before .before .loop .i in
+    let below = c .before .before .before .before .loop-test .taken in
+    let e = byte-printable s t (q .pre .1 .1) i below (c .before .before .before .text-place .ensures) (c .before .before .byte-at .ensures) in
+    sym (below-fails (textByteFormed s t) (q .args .n) i below (sym e ∙ sym (c .before .is-printable .ensures) ∙ not-true _ (c .if1 .taken)))
 
 add-i : tie.Need-add-i Inv-loop μ-loop
 add-i c = omega arith
@@ -47,7 +54,14 @@ loop-less : tie.Need-loop-less Inv-loop μ-loop
 loop-less c = omega arith
 
 loop-again : tie.Need-loop-again Inv-loop μ-loop
-loop-again c = let q = c .before .before .before .before .before .before .before in let s = q .args in let l = c .before .before .before .before .before .loop in (omega arith, below-next (textByteFormed (now (s .shelf)) (s .t)) (l .i) (l .inv .1) (sym (byte-printable (now (s .shelf)) (s .t) (q .pre .1 .1) (l .i) (c .before .before .before .before .loop-test .taken) (c .before .before .before .text-place .ensures) (c .before .before .byte-at .ensures)) ∙ sym (c .before .is-printable .ensures) ∙ not-false _ (c .if1 .left)))
+loop-again c =
+    let q = c .before .before .before .before .before .before .before in
+    let s = now (q .args .shelf) in
+    let t = q .args .t in
+    let l = c .before .before .before .before .before .loop in
+    let below = c .before .before .before .before .loop-test .taken in
+    let e = byte-printable s t (q .pre .1 .1) (l .i) below (c .before .before .before .text-place .ensures) (c .before .before .byte-at .ensures) in
+    (omega arith, below-next (textByteFormed s t) (l .i) (l .inv .1) (sym e ∙ sym (c .before .is-printable .ensures) ∙ not-false _ (c .if1 .left)))
 
 returns-2 : tie.Need-returns-2 Inv-loop μ-loop
 returns-2 c = let e : c .before .loop .i ≡ c .before .before .before .args .n = omega arith in sym (rw e at (c .before .loop .inv .1))

@@ -38,7 +38,12 @@ byte-at-requires c κs = search needs
 
 returns : tie.Need-returns Inv-loop μ-loop
 unfolding typeEmpty
-returns c = let s = c .before .before .before .before .before .before .args in sym (below-fails (typeByteEmpty (now (s .shelf)) (s .t)) typeSize (c .before .before .before .before .loop .i) (c .before .before .before .loop-test .taken) (ne-eqb (getD (now (s .shelf)) (typePlace (s .t) + c .before .before .before .before .loop .i) 0) 0 (rw (c .before .byte-at .ensures, c .before .before .type-place .ensures) at (c .if1 .taken))))
+returns c =
+    let q = c .before .before .before .before .before .before .args in
+    let s = now (q .shelf) in
+    let i = c .before .before .before .before .loop .i in
+    let no = ne-eqb (getD s (typePlace (q .t) + i) 0) 0 (rw (c .before .byte-at .ensures, c .before .before .type-place .ensures) at (c .if1 .taken)) in
+    sym (below-fails (typeByteEmpty s (q .t)) typeSize i (c .before .before .before .loop-test .taken) no)
 
 add-i : tie.Need-add-i Inv-loop μ-loop
 add-i c = omega arith
@@ -47,7 +52,12 @@ loop-less : tie.Need-loop-less Inv-loop μ-loop
 loop-less c = omega arith
 
 loop-again : tie.Need-loop-again Inv-loop μ-loop
-loop-again c = let s = c .before .before .before .before .before .before .args in (omega arith, below-next (typeByteEmpty (now (s .shelf)) (s .t)) (c .before .before .before .before .loop .i) (c .before .before .before .before .loop .inv .1) (eq-eqb (getD (now (s .shelf)) (typePlace (s .t) + c .before .before .before .before .loop .i) 0) 0 (rw (c .before .byte-at .ensures, c .before .before .type-place .ensures) at (c .if1 .left))))
+loop-again c =
+    let q = c .before .before .before .before .before .before .args in
+    let s = now (q .shelf) in
+    let l = c .before .before .before .before .loop in
+    let yes = eq-eqb (getD s (typePlace (q .t) + l .i) 0) 0 (rw (c .before .byte-at .ensures, c .before .before .type-place .ensures) at (c .if1 .left)) in
+    (omega arith, below-next (typeByteEmpty s (q .t)) (l .i) (l .inv .1) yes)
 
 returns-2 : tie.Need-returns-2 Inv-loop μ-loop
 unfolding typeEmpty

@@ -38,7 +38,14 @@ entry-formed-requires c κs = search needs
 
 returns : tie.Need-returns Inv-loop μ-loop
 unfolding entriesFormed
-returns c = let s = c .before .before .before .before .before .before .before .before .before .args in sym (below-fails (entryFormed (now (s .configuration)) (now (s .fields))) (s .n) (c .before .before .before .before .before .loop .i) (c .before .before .before .before .loop-test .taken) (sym (entry-tested (now (s .configuration)) (now (s .fields)) (c .before .before .before .before .before .loop .i) (slot-walked (now (s .configuration)) (c .before .before .before .before .before .loop .i) (c .before .before .before .run-to .ensures) (c .before .before .slot-in .ensures)) (c .before .entry-formed .ensures)) ∙ not-true _ (c .if1 .taken)))
+returns c =
+    let q = c .before .before .before .before .before .before .before .before .before .args in
+    let s = now (q .configuration) in
+    let f = now (q .fields) in
+    let i = c .before .before .before .before .before .loop .i in
+    let slot = slot-walked s i (c .before .before .before .run-to .ensures) (c .before .before .slot-in .ensures) in
+    let e = entry-tested s f i slot (c .before .entry-formed .ensures) in
+    sym (below-fails (entryFormed s f) (q .n) i (c .before .before .before .before .loop-test .taken) (sym e ∙ not-true _ (c .if1 .taken)))
 
 add-i : tie.Need-add-i Inv-loop μ-loop
 add-i c = omega arith
@@ -47,7 +54,14 @@ loop-less : tie.Need-loop-less Inv-loop μ-loop
 loop-less c = omega arith
 
 loop-again : tie.Need-loop-again Inv-loop μ-loop
-loop-again c = let s = c .before .before .before .before .before .before .before .before .before .args in let l = c .before .before .before .before .before .loop in (omega arith, walk-on (now (s .configuration)) (l .i) (c .before .before .before .run-to .ensures), below-next (entryFormed (now (s .configuration)) (now (s .fields))) (l .i) (l .inv .2) (sym (entry-tested (now (s .configuration)) (now (s .fields)) (c .before .before .before .before .before .loop .i) (slot-walked (now (s .configuration)) (c .before .before .before .before .before .loop .i) (c .before .before .before .run-to .ensures) (c .before .before .slot-in .ensures)) (c .before .entry-formed .ensures)) ∙ not-false _ (c .if1 .left)))
+loop-again c =
+    let q = c .before .before .before .before .before .before .before .before .before .args in
+    let s = now (q .configuration) in
+    let f = now (q .fields) in
+    let l = c .before .before .before .before .before .loop in
+    let r = c .before .before .before .run-to .ensures in
+    let e = entry-tested s f (l .i) (slot-walked s (l .i) r (c .before .before .slot-in .ensures)) (c .before .entry-formed .ensures) in
+    (omega arith, walk-on s (l .i) r, below-next (entryFormed s f) (l .i) (l .inv .2) (sym e ∙ not-false _ (c .if1 .left)))
 
 returns-2 : tie.Need-returns-2 Inv-loop μ-loop
 unfolding entriesFormed

@@ -41,7 +41,12 @@ slot-place-requires : tie.Need-slot-place-requires Inv-loop μ-loop
 slot-place-requires c κs = search needs
 
 put-four-requires : tie.Need-put-four-requires Inv-loop μ-loop
-put-four-requires c κs = let q = c .before .before .before .before .before .before .before .before .before .before .before .before in let l = c .before .before .before .before .before .before .before .loop in omega (arith, c .slot-place .ensures, q .pre .1 .1 .1, c .before .before .before .before .before .before .loop-test .taken, fours-length slotPlace (slotRow (now (q .args .configuration)) (entryAt (now (q .args .fields)))) (now (q .args .out)) (l .i) (l .inv .2))
+put-four-requires c κs =
+    let q = c .before .before .before .before .before .before .before .before .before .before .before .before in
+    let l = c .before .before .before .before .before .before .before .loop in
+    let row = slotRow (now (q .args .configuration)) (entryAt (now (q .args .fields))) in
+    let e = fours-length slotPlace row (now (q .args .out)) (l .i) (l .inv .2) in
+    omega (arith, c .slot-place .ensures, q .pre .1 .1 .1, c .before .before .before .before .before .before .loop-test .taken, e)
 
 add-i : tie.Need-add-i Inv-loop μ-loop
 add-i c = omega (arith, c .before .before .before .before .before .before .before .before .before .before .loop .inv .3, c .before .before .before .before .before .before .before .before .before .loop-test .taken)
@@ -51,12 +56,17 @@ loop-less c = omega arith
 
 loop-again : tie.Need-loop-again Inv-loop μ-loop
 loop-again c =
-    let s = c .before .before .before .before .before .before .before .before .before .before .before .before .before .before .before .args in
+    let q = c .before .before .before .before .before .before .before .before .before .before .before .before .before .before .before .args in
+    let s = now (q .configuration) in
+    let f = entryAt (now (q .fields)) in
     let l = c .before .before .before .before .before .before .before .before .before .before .loop in
-    let r = c .before .before .before .before .before .before .before .before .run-to .ensures in (
+    let r = c .before .before .before .before .before .before .before .before .run-to .ensures in
+    let slot = slot-walked s (l .i) r (c .before .before .before .before .before .before .before .slot-in .ensures) in
+    let row = row-is s f (l .i) slot (c .before .before .before .before .before .before .entry-at .ensures)
+    (c .before .before .before .before .before .slot-bytes .ensures) in (
       omega (arith, c .before .before .before .before .before .before .before .before .before .loop-test .taken),
-      walk-on (now (s .configuration)) (l .i) r,
-      fours-next slotPlace (slotRow (now (s .configuration)) (entryAt (now (s .fields)))) (now (s .out)) (l .i) (l .inv .2) (c .before .before .before .slot-place .ensures) (row-is (now (s .configuration)) (entryAt (now (s .fields))) (l .i) (slot-walked (now (s .configuration)) (l .i) r (c .before .before .before .before .before .before .before .slot-in .ensures)) (c .before .before .before .before .before .before .entry-at .ensures) (c .before .before .before .before .before .slot-bytes .ensures)) (c .before .before .put-four .ensures),
+      walk-on s (l .i) r,
+      fours-next slotPlace (slotRow s f) (now (q .out)) (l .i) (l .inv .2) (c .before .before .before .slot-place .ensures) row (c .before .before .put-four .ensures),
       l .inv .3,
     )
 

@@ -36,7 +36,13 @@ run-with-requires : tie.Need-run-with-requires Inv-loop μ-loop
 run-with-requires c κs = search needs
 
 returns : tie.Need-returns Inv-loop μ-loop
-returns c = let s = c .before .before .before .before .before .before .args in let l = c .before .before .before .before .loop in let e = ended (now (s .shelf)) (l .number) (l .inv .2) (c .before .before .elements-of .ensures) in run-is (now (s .shelf)) (s .j) (type-here (now (s .shelf)) (s .j) (l .number) (c .before .before .before .loop-test .taken) (l .inv .3) (rw e at (c .before .if1 .taken))) (l .inv .2) e (c .run-with .ensures)
+returns c =
+    let q = c .before .before .before .before .before .before .args in
+    let s = now (q .shelf) in
+    let l = c .before .before .before .before .loop in
+    let e = ended s (l .number) (l .inv .2) (c .before .before .elements-of .ensures) in
+    let here = type-here s (q .j) (l .number) (c .before .before .before .loop-test .taken) (l .inv .3) (rw e at (c .before .if1 .taken)) in
+    run-is s (q .j) here (l .inv .2) e (c .run-with .ensures)
 
 add-number : tie.Need-add-number Inv-loop μ-loop
 add-number c = omega arith

@@ -74,13 +74,29 @@ loop-less : tie.Need-loop-less Inv-loop μ-loop
 loop-less c = omega arith
 
 loop-again : tie.Need-loop-again Inv-loop μ-loop
-loop-again c = let s = c .before .before .before .before .before .before .before .before .before .before .before .args in let l = c .before .before .before .before .before .loop in (omega arith, walk-on (now (s .configuration)) (l .i) (c .before .before .before .run-to .ensures), below-next (fails (refusedIn (slotOffending (now (s .configuration)) (now (s .page))))) (l .i) (l .inv .2) (ap not (le-ltb (slotOffending (now (s .configuration)) (now (s .page)) (l .i)) 4 (rw (slot-offends (now (s .configuration)) (now (s .page)) (l .i) (slot-walked (now (s .configuration)) (l .i) (c .before .before .before .run-to .ensures) (c .before .before .slot-in .ensures)) (c .before .slot-offending .ensures)) at (c .if2 .left)))))
+loop-again c =
+    let q = c .before .before .before .before .before .before .before .before .before .before .before .args in
+    let s = now (q .configuration) in
+    let p = now (q .page) in
+    let l = c .before .before .before .before .before .loop in
+    let r = c .before .before .before .run-to .ensures in
+    let slot = slot-walked s (l .i) r (c .before .before .slot-in .ensures) in
+    let none = rw (slot-offends s p (l .i) slot (c .before .slot-offending .ensures)) at (c .if2 .left) in
+    (omega arith, walk-on s (l .i) r, below-next (fails (refusedIn (slotOffending s p))) (l .i) (l .inv .2) (ap not (le-ltb (slotOffending s p (l .i)) 4 none)))
 
 slot-place-requires-2 : tie.Need-slot-place-requires-2 Inv-loop μ-loop
 slot-place-requires-2 c κs = search needs
 
 returns-3 : tie.Need-returns-3 Inv-loop μ-loop
-returns-3 c = let s = c .before .before .before .before .before .before .before .before .args in let h : Fits w8 (c .before .before .before .before .before .byte-at .result) = search needs in let l = c .before .before .loop in let e : l .i ≡ s .n = omega arith in none-refused (now (s .configuration)) (now (s .page)) (s .n) (ap (only (2 ∷ 1 ∷ [])) (sym (c .before .before .before .before .before .byte-at .ensures)) ∙ sym (mask 0xf9 (2 ∷ 1 ∷ []) refl (c .before .before .before .before .before .byte-at .result) h) ∙ eq-eqb _ 0 (c .before .before .before .before .if1 .left)) (rw e at (l .inv .2)) (c .slot-place2 .ensures)
+returns-3 c =
+    let s = c .before .before .before .before .before .before .before .before .args in
+    let b = c .before .before .before .before .before .byte-at in
+    let h : Fits w8 (b .result) = search needs in
+    let l = c .before .before .loop in
+    let e : l .i ≡ s .n = omega arith in
+    none-refused (now (s .configuration)) (now (s .page)) (s .n)
+    (ap (only (2 ∷ 1 ∷ [])) (sym (b .ensures)) ∙ sym (mask 0xf9 (2 ∷ 1 ∷ []) refl (b .result) h) ∙ eq-eqb _ 0 (c .before .before .before .before .if1 .left))
+    (rw e at (l .inv .2)) (c .slot-place2 .ensures)
 
 pub first-offence-spec : {M : Type 1} → statement M
 first-offence-spec =

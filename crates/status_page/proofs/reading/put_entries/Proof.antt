@@ -44,7 +44,19 @@ loop-less : tie.Need-loop-less Inv-loop μ-loop
 loop-less c = omega arith
 
 loop-again : tie.Need-loop-again Inv-loop μ-loop
-loop-again c = let s = c .before .before .before .before .before .before .before .before .before .before .before .before .before .args in let l = c .before .before .before .before .before .before .before .before .loop in (omega (arith, c .before .before .before .before .before .before .before .loop-test .taken), walk-on (now (s .configuration)) (l .i) (c .before .before .before .before .before .before .run-to .ensures), entries-next (slotShown (now (s .configuration)) (now (s .page))) (now (s .fields)) (l .i) (l .inv .2) (slot-shows (now (s .configuration)) (now (s .page)) (l .i) (slot-walked (now (s .configuration)) (l .i) (c .before .before .before .before .before .before .run-to .ensures) (c .before .before .before .before .before .slot-in .ensures)) (c .before .before .before .slot-shown .ensures)) (c .before .before .put-entry .ensures), l .inv .3)
+loop-again c =
+    let q = c .before .before .before .before .before .before .before .before .before .before .before .before .before .args in
+    let s = now (q .configuration) in
+    let p = now (q .page) in
+    let l = c .before .before .before .before .before .before .before .before .loop in
+    let r = c .before .before .before .before .before .before .run-to .ensures in
+    let slot = slot-walked s (l .i) r (c .before .before .before .before .before .slot-in .ensures) in
+    let shown = slot-shows s p (l .i) slot (c .before .before .before .slot-shown .ensures) in (
+      omega (arith, c .before .before .before .before .before .before .before .loop-test .taken),
+      walk-on s (l .i) r,
+      entries-next (slotShown s p) (now (q .fields)) (l .i) (l .inv .2) shown (c .before .before .put-entry .ensures),
+      l .inv .3,
+    )
 
 same-length : tie.Need-same-length Inv-loop μ-loop
 same-length c = let s = c .before .before .before .before .before .before .args in length-entries (slotShown (now (s .configuration)) (now (s .page))) (now (s .fields)) (c .before .loop .i) (c .before .loop .inv .2)

@@ -38,10 +38,20 @@ slot-place-requires : tie.Need-slot-place-requires Inv-loop μ-loop
 slot-place-requires c κs = search needs
 
 slot-row-requires : tie.Need-slot-row-requires Inv-loop μ-loop
-slot-row-requires c κs = let q = c .before .before .before .before .before .before .before .before .before in let s = now (q .args .shelf) in let l = c .before .before .before .before .before .loop in slot-has s (q .pre .0 .0) (l .i) (omega (arith, q .pre .1, c .before .before .before .before .loop-test .taken)) (slot-walked s (l .i) (c .before .before .before .run-to .ensures) (c .before .before .slot-in .ensures))
+slot-row-requires c κs =
+    let q = c .before .before .before .before .before .before .before .before .before in
+    let s = now (q .args .shelf) in
+    let i = c .before .before .before .before .before .loop .i in
+    slot-has s (q .pre .0 .0) i (omega (arith, q .pre .1, c .before .before .before .before .loop-test .taken))
+    (slot-walked s i (c .before .before .before .run-to .ensures) (c .before .before .slot-in .ensures))
 
 put-four-requires : tie.Need-put-four-requires Inv-loop μ-loop
-put-four-requires c κs = let q = c .before .before .before .before .before .before .before .before .before .before in let l = c .before .before .before .before .before .before .loop in omega (arith, c .before .slot-place .ensures, q .pre .0 .1, q .pre .1, c .before .before .before .before .before .loop-test .taken, fours-length slotPlace (slotRow (now (q .args .shelf)) (shownIn (now (q .args .shelf)))) (now (q .args .out)) (l .i) (l .inv .2))
+put-four-requires c κs =
+    let q = c .before .before .before .before .before .before .before .before .before .before in
+    let s = now (q .args .shelf) in
+    let l = c .before .before .before .before .before .before .loop in
+    let e = fours-length slotPlace (slotRow s (shownIn s)) (now (q .args .out)) (l .i) (l .inv .2) in
+    omega (arith, c .before .slot-place .ensures, q .pre .0 .1, q .pre .1, c .before .before .before .before .before .loop-test .taken, e)
 
 add-i : tie.Need-add-i Inv-loop μ-loop
 add-i c = omega arith
@@ -50,7 +60,17 @@ loop-less : tie.Need-loop-less Inv-loop μ-loop
 loop-less c = omega arith
 
 loop-again : tie.Need-loop-again Inv-loop μ-loop
-loop-again c = let s = c .before .before .before .before .before .before .before .before .before .before .before .before .before .args in let l = c .before .before .before .before .before .before .before .before .before .loop in let r = c .before .before .before .before .before .before .before .run-to .ensures in (omega (arith, c .before .before .before .before .before .before .before .before .loop-test .taken), walk-on (now (s .shelf)) (l .i) r, fours-next slotPlace (slotRow (now (s .shelf)) (shownIn (now (s .shelf)))) (now (s .out)) (l .i) (l .inv .2) (c .before .before .before .before .slot-place .ensures) (shelf-row (now (s .shelf)) (l .i) (slot-walked (now (s .shelf)) (l .i) r (c .before .before .before .before .before .before .slot-in .ensures)) (c .before .before .before .slot-row .ensures)) (c .before .before .put-four .ensures))
+loop-again c =
+    let q = c .before .before .before .before .before .before .before .before .before .before .before .before .before .args in
+    let s = now (q .shelf) in
+    let l = c .before .before .before .before .before .before .before .before .before .loop in
+    let r = c .before .before .before .before .before .before .before .run-to .ensures in
+    let slot = slot-walked s (l .i) r (c .before .before .before .before .before .before .slot-in .ensures) in
+    let row = shelf-row s (l .i) slot (c .before .before .before .slot-row .ensures) in (
+      omega (arith, c .before .before .before .before .before .before .before .before .loop-test .taken),
+      walk-on s (l .i) r,
+      fours-next slotPlace (slotRow s (shownIn s)) (now (q .out)) (l .i) (l .inv .2) (c .before .before .before .before .slot-place .ensures) row (c .before .before .put-four .ensures),
+    )
 
 same-length : tie.Need-same-length Inv-loop μ-loop
 same-length c = let s = c .before .before .before .before .before .args in fours-length slotPlace (slotRow (now (s .shelf)) (shownIn (now (s .shelf)))) (now (s .out)) (c .before .loop .i) (c .before .loop .inv .2)

@@ -109,13 +109,19 @@ length-type p t = length-append (headTold p t) (textTold p t) ∙ rw (length-tol
 pub type-rows : (p : List ℕ) → EndToEnd typePlace (λ t. typeSize) (typeTold p)
 type-rows p t = (length-type p t, omega arith)
 
+-- what stands before them
+module _ (p : List ℕ) where
+  pub identification-end : length (fourAt p 4 ++ bytesAt p 12 36) ≡ 40
+  identification-end = length-append (fourAt p 4) (bytesAt p 12 36) ∙ rw (length-bytes-at p 12 36)
+
+  pub types-begin : length (fourAt p 4 ++ bytesAt p 12 36 ++ (typesOn p ∷ 0 ∷ 0 ∷ 0 ∷ [])) ≡ typePlace 0
+  types-begin = length-append (fourAt p 4 ++ bytesAt p 12 36) (typesOn p ∷ 0 ∷ 0 ∷ 0 ∷ []) ∙ rw identification-end
+
 pub length-configuration : (p : List ℕ) → length (configurationOf p) ≡ typePlace mostTypes
 unfolding configurationOf
 length-configuration p =
-    let named = fourAt p 4 ++ bytesAt p 12 36 in
-    let types : List ℕ = typesOn p ∷ 0 ∷ 0 ∷ 0 ∷ [] in
-    let l : length (named ++ types) ≡ 44 = length-append named types ∙ rw (length-append (fourAt p 4) (bytesAt p 12 36), length-bytes-at p 12 36) in
-    rows-end typePlace (λ t. typeSize) (typeTold p) (type-rows p) (named ++ types) l mostTypes
+    let front = fourAt p 4 ++ bytesAt p 12 36 ++ (typesOn p ∷ 0 ∷ 0 ∷ 0 ∷ []) in
+    rows-end typePlace (λ t. typeSize) (typeTold p) (type-rows p) front (types-begin p) mostTypes
 
 -- from what the calls say: a type, and the configuration whole
 pub type-put : (p : List ℕ) (t : ℕ) (c : List ℕ) {a b : ℕ} {h x o1 o2 : List ℕ}
@@ -138,8 +144,7 @@ unfolding configurationOf
 record-placed p c {n} {f} {o1} {o2} {o3} h en ef e1 e2 e3 e4 =
     let named = fourAt p 4 ++ bytesAt p 12 36 in
     let types : List ℕ = typesOn p ∷ 0 ∷ 0 ∷ 0 ∷ [] in
-    let l : length named ≡ 40 = length-append (fourAt p 4) (bytesAt p 12 36) ∙ rw (length-bytes-at p 12 36) in
     let p1 : o1 ≡ placed (fourAt p 4) c = e1 ∙ rw ef (four-behind [] c (fourAt p 4) 0 refl refl (omega arith)) in
     let p2 : o2 ≡ placed named c = e2 ∙ rw p1 (put-behind (fourAt p 4) c (bytesAt p 12 36) 4 refl (rw (length-bytes-at p 12 36) (omega arith))) in
-    let p3 : o3 ≡ placed (named ++ types) c = e3 ∙ rw (p2, en) (four-behind named c types 40 l refl (omega arith)) in
-    e4 ∙ rw p3 (rows-behind typePlace (λ t. typeSize) (typeTold p) (type-rows p) (named ++ types) (length-append named types ∙ rw l) c mostTypes h)
+    let p3 : o3 ≡ placed (named ++ types) c = e3 ∙ rw (p2, en) (four-behind named c types 40 (identification-end p) refl (omega arith)) in
+    e4 ∙ rw p3 (rows-behind typePlace (λ t. typeSize) (typeTold p) (type-rows p) (named ++ types) (types-begin p) c mostTypes h)

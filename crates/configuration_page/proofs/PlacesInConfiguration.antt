@@ -4,16 +4,16 @@ use mathlib.Core.List.{List, [], _∷_, _++_, append-nil}
 use Prim.Native.Nat.{ℕ, _+_, _*_, _<_}
 use native.Mathlib.Nat.{add-zero}
 use native.Mathlib.Omega.{arith}
-use lib.ListN.{length, getD, length-append}
+use lib.ListN.{getD}
 use Rattle.bits.specs.Places.{fourAt}
 use Rattle.bits.specs.Rows.{joined, bytesAt}
 use Rattle.bits.proofs.Parts.{get-front, get-behind}
-use Rattle.bits.proofs.Rows.{joined-get, row-get, bytes-get, length-bytes-at}
+use Rattle.bits.proofs.Rows.{joined-get, row-get, bytes-get}
 use Rattle.shelf.specs.Limits.{mostTypes, mostText, typeSize, typePlace, textPlace}
 use Rattle.shelf.specs.Types.{typesOf, typeCode}
 use Rattle.configuration_page.specs.Read.{typesOn}
 use Rattle.configuration_page.specs.Configuration.{toldByte, textByte, oneTold, headTold, textTold, typeTold, configurationOf}
-use Rattle.configuration_page.proofs.PartsPut.{type-rows}
+use Rattle.configuration_page.proofs.PartsPut.{type-rows, identification-end, types-begin}
 
 module _ (p : List ℕ) where
   named : List ℕ
@@ -22,14 +22,6 @@ module _ (p : List ℕ) where
   types : List ℕ
   types = typesOn p ∷ 0 ∷ 0 ∷ 0 ∷ []
 
-  length-named : length named ≡ 40
-  unfolding named
-  length-named = length-append (fourAt p 4) (bytesAt p 12 36) ∙ rw (length-bytes-at p 12 36)
-
-  length-head : length (named ++ types) ≡ 44
-  unfolding types
-  length-head = length-append named types ∙ rw length-named
-
   pub handed-generation : fourAt (configurationOf p) 0 ≡ fourAt p 4
   unfolding configurationOf
   handed-generation = refl
@@ -37,8 +29,8 @@ module _ (p : List ℕ) where
   pub handed-identification : (i : ℕ) → i < 36 → getD (configurationOf p) (4 + i) 0 ≡ getD p (12 + i) 0
   unfolding configurationOf named types
   handed-identification i h =
-      get-front (named ++ types) (joined (typeTold p) mostTypes) 44 (4 + i) length-head (omega arith)
-      ∙ get-front named types 40 (4 + i) length-named (omega arith)
+      get-front (named ++ types) (joined (typeTold p) mostTypes) 44 (4 + i) (types-begin p) (omega arith)
+      ∙ get-front named types 40 (4 + i) (identification-end p) (omega arith)
       ∙ get-behind (fourAt p 4) (bytesAt p 12 36) 4 i refl
       ∙ ap (λ (r : List ℕ). getD r i 0) (sym (append-nil (bytesAt p 12 36)))
       ∙ bytes-get p 12 36 i [] h
@@ -46,8 +38,8 @@ module _ (p : List ℕ) where
   handed-head : (i : ℕ) → i < 4 → getD (configurationOf p) (40 + i) 0 ≡ getD (typesOn p ∷ 0 ∷ 0 ∷ 0 ∷ []) i 0
   unfolding configurationOf named types
   handed-head i h =
-      get-front (named ++ types) (joined (typeTold p) mostTypes) 44 (40 + i) length-head (omega arith)
-      ∙ get-behind named types 40 i length-named
+      get-front (named ++ types) (joined (typeTold p) mostTypes) 44 (40 + i) (types-begin p) (omega arith)
+      ∙ get-behind named types 40 i (identification-end p)
 
   pub handed-types : typesOf (configurationOf p) ≡ typesOn p
   handed-types = handed-head 0 (omega arith)
@@ -60,7 +52,7 @@ module _ (p : List ℕ) where
     unfolding configurationOf named types
     handed-type j l =
         ap (λ (r : List ℕ). getD r (typePlace t + j) 0) (sym (append-nil (configurationOf p)))
-        ∙ row-get typePlace (λ t. typeSize) (typeTold p) (type-rows p) (named ++ types) length-head mostTypes [] t j h l
+        ∙ row-get typePlace (λ t. typeSize) (typeTold p) (type-rows p) (named ++ types) (types-begin p) mostTypes [] t j h l
 
     pub handed-code : typeCode (configurationOf p) t ≡ toldByte p 0 t
     unfolding typeTold headTold

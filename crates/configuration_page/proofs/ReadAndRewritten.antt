@@ -26,6 +26,7 @@ use Rattle.shelf.specs.Limits.{mostTypes, mostElements, mostInType, mostText, t
 use Rattle.shelf.specs.Types.{typesOf, typeCode, typeCount, textLength, before, elementsOf}
 use Rattle.shelf_formed.specs.Formed.{headFormed, textByteFormed, textFormed, typeFormed, typeByteEmpty, typeEmpty, slotFormed, typesFormed, frontFormed, configurationFormed}
 use Rattle.page.specs.Header.{lengthSaid}
+use Rattle.page.proofs.HeaderBothWays.{byte-small}
 use Rattle.configuration_page.specs.Page.{headerPlace, typeHeader, textOf, configurationLength, fixedPart, configurationPage}
 use Rattle.configuration_page.specs.Read.{typesOn, headerByte, totalBefore, textPlaceOn, configurationRead}
 use Rattle.configuration_page.specs.Configuration.{toldByte, textByte, oneTold, headTold, textTold, typeTold, configurationOf}
@@ -33,12 +34,6 @@ use Rattle.configuration_page.proofs.PartsPut.{length-type, length-conf
 use Rattle.configuration_page.proofs.AcceptedPage.{code-passed, length-passed, needed-passed, byte-1, byte-8, byte-9, byte-11, types-passed, code-served, counts-passed, third-zero, text-short, text-passed}
 use Rattle.configuration_page.proofs.TextStarts.{told-byte, past-byte, told-sum, few-types}
 use Rattle.configuration_page.proofs.PlacesInConfiguration.{handed-generation, handed-identification, handed-types, handed-zeros, handed-type, handed-code, handed-count, handed-length, handed-spare, handed-text}
-
--- a byte of a page is below 256, also past the end
-small : (p : List ℕ) → Bytes p → (k : ℕ) → getD p k 0 < 256
-small [] b k = omega arith
-small (x ∷ p) b zero = b .0
-small (x ∷ p) b (suc k) = small p (b .1) k
 
 abbrev isZero : ℕ → Bool
 isZero b = eqb b 0
@@ -194,7 +189,7 @@ module _ (p : List ℕ) (a : configurationRead p ≡ Accepted) where
         let n : ℕ = big (twoAt p 2) in
         let e : length p ≡ n + 4 = eqb-true (length p) (n + 4) (length-passed p a) in
         let q : configurationLength (configurationOf p) - 4 ≡ n = rw (same-length, e) (omega arith) in
-        ap (bytes 2) q ∙ bytes-big (twoAt p 2) (small p b 2, (small p b 3, tt))
+        ap (bytes 2) q ∙ bytes-big (twoAt p 2) (byte-small p b 2, (byte-small p b 3, tt))
 
     same-first : 0x01 ∷ 0 ∷ bytes 2 (configurationLength (configurationOf p) - 4) ≡ fourAt p 0
     same-first =

@@ -19,8 +19,8 @@ use Rattle.build_element.proofs.RequestBytes.{select-counts}
 use Rattle.build_element.proofs.FirstElement.{alike-same}
 use Rattle.build_element.proofs.BestPart.{cost-is, tries-do, best-again, best-none}
 use Rattle.shelf.specs.Elements.{settingsAt}
+use Rattle.shelf.specs.SettingsList.{settingsIn}
 use Rattle.page.specs.declared.slots.Slot.{Slot}
-use Rattle.control_page.specs.Brought.{settingsIn}
 use Rattle.build_overall.specs.declared.Candidate.{Candidate}
 use Rattle.build_overall.specs.Choice.{storedFrom, wantedFrom, costOf, ranked, triedOne, bestAfter, bestAmong, repeated, overallOf}
 

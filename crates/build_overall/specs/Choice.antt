@@ -8,15 +8,12 @@ use Rattle.bits.specs.Choice.{pick, firstBelow}
 use Rattle.build_element.specs.Wishes.{alike}
 use Rattle.build_element.specs.Parts.{cost, sooner, bestTried, bestOf, overallFor}
 use Rattle.shelf.specs.Elements.{settingsAt}
+use Rattle.shelf.specs.SettingsList.{settingsIn}
 use Rattle.page.specs.declared.slots.Slot.{Slot}
 use Rattle.page.specs.Slots.{HasElements}
-use Rattle.control_page.specs.Brought.{settingsIn}
 use Rattle.build_overall.specs.declared.Candidate.{Candidate}
 
--- the wanted list w has a record for element j, and for all that a slot is for, which the shelf s has
-abbrev pub HasWish : List ℕ → ℕ → Type 0
-HasWish w j = 4 * j + 4 ≤ length w
-
+-- the wanted list w has a record for each element that a slot is for, which the shelf s has
 abbrev pub HasWishes : List ℕ → List ℕ → Slot → Type 0
 HasWishes s w at = HasElements s at × (4 * at .end ≤ length w)
 

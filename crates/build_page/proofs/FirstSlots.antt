@@ -25,6 +25,7 @@ use Rattle.build_element.proofs.FirstElement.{Row, one-row}
 use Rattle.build_element.proofs.BestPart.{best-row, part-first}
 use Rattle.shelf.specs.Types.{typesOf, typeCount, before, elementsOf}
 use Rattle.shelf.specs.Elements.{settingsAt}
+use Rattle.shelf.specs.SettingsList.{settingsIn}
 use Rattle.shelf_formed.specs.Formed.{frontFormed}
 use Rattle.shelf_formed.proofs.ElementTypes.{front-formed}
 use Rattle.page.specs.Slots.{slotsOf, startOf, slotType, slotAt, slotPlace}
@@ -33,7 +34,7 @@ use Rattle.page.proofs.SlotsBefore.{start-none, start-next}
 use Rattle.page.proofs.ElementSlots.{start-up}
 use Rattle.page.proofs.HeaderBothWays.{byte-small}
 use Rattle.control_page.specs.Tests.{slotOffending, valid}
-use Rattle.control_page.specs.Brought.{settingsAfter, broughtTo, settingsIn}
+use Rattle.control_page.specs.Brought.{settingsAfter, broughtTo}
 use Rattle.control_page.proofs.ValidPage.{valid-formed, valid-slot}
 use Rattle.control_page.proofs.PageActs.{after-length}
 use Rattle.build_page.specs.Page.{typeKind, storedIn, wantedIn, overallIn, rowUnder, rowFor}

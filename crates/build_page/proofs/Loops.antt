@@ -27,12 +27,12 @@ use Rattle.shelf.specs.Types.{typeCount, before, elementsOf, kindAt}
 use Rattle.shelf_formed.specs.Formed.{wellFormed}
 use Rattle.shelf_formed.proofs.ElementTypes.{front-formed}
 use Rattle.shelf.specs.Elements.{settingsAt}
+use Rattle.shelf.specs.SettingsList.{settingsIn}
 use Rattle.page.specs.declared.slots.Slot.{Slot}
 use Rattle.page.specs.Slots.{slotsOf, startOf, inType, slotType, isOverall, slotAt}
 use Rattle.page.proofs.SlotsOfFront.{end-there}
 use Rattle.page.proofs.ElementSlots.{start-up, slotted, slot-has}
 use Rattle.page.proofs.SlotTypes.{start-below, type-ends}
-use Rattle.control_page.specs.Brought.{settingsIn}
 use Rattle.build_overall.specs.Choice.{HasWishes, overallOf}
 use Rattle.build_page.specs.Promise.{mayBe}
 use Rattle.build_page.specs.Page.{overallIn, rowUnder, rowFor, selectsFor, reachable}

@@ -20,6 +20,7 @@ use Rattle.build_element.proofs.FirstElement.{brings-same, one-same}
 use Rattle.build_element.proofs.BestPart.{cost-is, best-none}
 use Rattle.shelf.specs.Types.{typesOf, typeCount, before, elementsOf}
 use Rattle.shelf.specs.Elements.{settingsAt}
+use Rattle.shelf.specs.SettingsList.{settingsIn}
 use Rattle.shelf_formed.specs.Formed.{frontFormed}
 use Rattle.shelf_formed.proofs.ElementTypes.{front-formed}
 use Rattle.page.specs.Slots.{slotsOf, startOf, slotType, slotAt, slotPlace}
@@ -27,7 +28,6 @@ use Rattle.page.specs.Places.{ownSlot}
 use Rattle.page.proofs.ElementSlots.{start-up}
 use Rattle.page.proofs.SlotTypes.{start-below, types-below}
 use Rattle.page.proofs.SlotsOfFront.{after-start, first-is, first-typed, first-there}
-use Rattle.control_page.specs.Brought.{settingsIn}
 use Rattle.control_page.proofs.ValidPage.{valid-formed}
 use Rattle.build_page.specs.Promise.{Best}
 use Rattle.build_page.specs.Page.{typeKind, storedIn, wantedIn, overallIn, rowUnder, rowFor}

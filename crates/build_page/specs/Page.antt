@@ -1,7 +1,7 @@
 -- The control page for a wish: how it is made. Assumes nothing.
 use mathlib.Core.Bool.{Bool}
 use mathlib.Core.List.{List, _++_}
-use Prim.Native.Nat.{ℕ, _+_}
+use Prim.Native.Nat.{ℕ}
 use Rattle.bits.specs.Choice.{pick, sumBelow}
 use Rattle.bits.specs.Rows.{joined}
 use Rattle.element.specs.declared.types.Kind.{Kind}
@@ -11,10 +11,10 @@ use Rattle.build_element.specs.Wishes.{inReach, one}
 use Rattle.build_element.specs.Parts.{selects, overallFor}
 use Rattle.shelf.specs.Types.{typeCode, typeCount, before, kindAt}
 use Rattle.shelf.specs.Elements.{settingsAt}
+use Rattle.shelf.specs.SettingsList.{settingsIn}
 use Rattle.page.specs.declared.slots.Slot.{Slot}
 use Rattle.page.specs.Slots.{slotsOf, slotType, slotAt}
 use Rattle.page.specs.Header.{header}
-use Rattle.control_page.specs.Brought.{settingsIn}
 use Rattle.build_overall.specs.Choice.{storedFrom, wantedFrom}
 
 -- of type t: its kind, and what is stored and wanted of its element i

@@ -11,9 +11,10 @@ ghost use mathlib.Core.Bool.{true};
 ghost use Rattle.element.specs.Control.{selected, controlOf, settled};
 ghost use Rattle.shelf.specs.Limits.{HasElement};
 ghost use Rattle.shelf.specs.Elements.{settingsAt, settingsPut};
+ghost use Rattle.shelf.specs.SettingsList.{withSettings};
 ghost use Rattle.page.specs.Places.{placesOf, HasSlots};
 ghost use Rattle.page.specs.Header.{HasPage};
-ghost use Rattle.control_page.specs.Brought.{settingsAfter, broughtTo, withSettings};
+ghost use Rattle.control_page.specs.Brought.{settingsAfter, broughtTo};
 
 fn act_by(shelf: &mut [u8], kind: Kind, e: [u8; 4], j: u16)
     requires { ⌜ HasElement (now shelf) j ⌝ }

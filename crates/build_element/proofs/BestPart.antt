@@ -26,8 +26,8 @@ use Rattle.element.specs.Settings.{settingsOf}
 use Rattle.element.specs.Control.{selected, unselected, controlOf, chosen, settled}
 use Rattle.build_element.specs.Wishes.{silent, requestBytes, requestFor, brings}
 use Rattle.build_element.specs.Parts.{selects, under, cost, part, tried, tries, sooner, better, bestTried, bestOf, overallFor}
-use Rattle.build_element.proofs.RequestSays.{ask-selected, ask-fine, ask-length, ask-small, silent-control, silent-fine}
-use Rattle.build_element.proofs.FirstElement.{Row, silent-first, silent-small, selected-acts, row-asks, effect-off, one-first, one-row, one-selects}
+use Rattle.build_element.proofs.RequestSays.{request-selected, request-fine, request-length, request-small, silent-control, silent-fine}
+use Rattle.build_element.proofs.FirstElement.{Row, silent-first, silent-small, selected-acts, row-request, effect-off, one-first, one-row, one-selects}
 use Rattle.build_element.proofs.Requests.{request-is, reaches-it, code-is}
 
 -- the number that four bytes say
@@ -83,7 +83,7 @@ tried-all k e w o q t h P f =
     let r = settingsOf k o in
     let x = settingsOf k w in
     let a = selected-acts k e w o t h in
-    rw (← (row-asks k o q t)) (rw (request-is (settingsOf k e) x r a) (go (r .swap) (r .speed) (code-is (settingsOf k e) x (r .swap) (r .speed) (reaches-it (settingsOf k e) x r a))))
+    rw (← (row-request k o q t)) (rw (request-is (settingsOf k e) x r a) (go (r .swap) (r .speed) (code-is (settingsOf k e) x (r .swap) (r .speed) (reaches-it (settingsOf k e) x r a))))
   where
     go : (b : Bool) (n : ℕ) → (n ≡ 0) ⊎ (n ≡ settingsOf k w .speed) → P (requestBytes k (requestFor (settingsOf k w) b n))
     go false n (inl z) = rw z (f 0 (omega arith))
@@ -97,11 +97,11 @@ unfolding tried
 tried-row k x v =
     let s = settingsOf k x in
     let r = requestFor s (eqb (v % 2) 1) (pick (leb 2 v) (s .speed) 0) in
-    (ask-length k r, ask-small k r, ask-fine k r)
+    (request-length k r, request-small k r, request-fine k r)
 
 tried-selected : (k : Kind) (x : List ℕ) (v : ℕ) → selected (tried k x v) ≡ true
 unfolding tried
-tried-selected k x v = let s = settingsOf k x in ask-selected k (requestFor s (eqb (v % 2) 1) (pick (leb 2 v) (s .speed) 0))
+tried-selected k x v = let s = settingsOf k x in request-selected k (requestFor s (eqb (v % 2) 1) (pick (leb 2 v) (s .speed) 0))
 
 -- where no speed is wanted, the last two are the first two
 tried-again : (k : Kind) (x : List ℕ) → settingsOf k x .speed ≡ 0 → (tried k x 2 ≡ tried k x 0) × (tried k x 3 ≡ tried k x 1)

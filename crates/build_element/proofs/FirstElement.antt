@@ -22,9 +22,9 @@ use Rattle.element.proofs.SettingsBothWays.{four}
 use Rattle.element.proofs.StoredSettings.{settings-back, settings-again, settings-storable, asked-storable}
 use Rattle.element.proofs.Acting.{settled-length}
 use Rattle.build_element.specs.Wishes.{silent, alike, requestBytes, requestFor, clearing, turning, own, brings, one}
-use Rattle.build_element.proofs.SoundLayout.{ask-order, no-stop, request-storable}
-use Rattle.build_element.proofs.Requests.{Reaches, ask-again, request-reaches, request-is, reaches-it}
-use Rattle.build_element.proofs.RequestSays.{ask-selected, ask-fine, ask-length, ask-small, ask-control, silent-control, silent-fine}
+use Rattle.build_element.proofs.SoundLayout.{request-order, no-stop, request-storable}
+use Rattle.build_element.proofs.Requests.{Reaches, request-again, request-reaches, request-is, reaches-it}
+use Rattle.build_element.proofs.RequestSays.{request-selected, request-fine, request-length, request-small, request-control, silent-control, silent-fine}
 
 -- four zeros come first
 zero-order : (a : ℕ) (p q : List ℕ) → InOrder p q → InOrder (0 ∷ p) (a ∷ q)
@@ -103,12 +103,12 @@ silent-not : (k : Kind) → selected silent ≡ false
 silent-not k = refl
 
 -- a selected one asks for what it says
-pub row-asks : (k : Kind) (c : List ℕ) → Row k c → selected c ≡ true → requestBytes k (settingsOf k c) ≡ c
-row-asks k c q t =
+pub row-request : (k : Kind) (c : List ℕ) → Row k c → selected c ≡ true → requestBytes k (settingsOf k c) ≡ c
+row-request k c q t =
     let b = q .1 in
     let v = as-four c (q .0) in
     ap (λ (y : List ℕ). requestBytes k (settingsOf k y)) v
-    ∙ ask-again k (getD c 0 0) (getD c 1 0) (getD c 2 0) (getD c 3 0) (b 0) (b 3) (ap selected (sym v) ∙ t) (ap (offending k) (sym v) ∙ q .2)
+    ∙ request-again k (getD c 0 0) (getD c 1 0) (getD c 2 0) (getD c 3 0) (b 0) (b 3) (ap selected (sym v) ∙ t) (ap (offending k) (sym v) ∙ q .2)
     ∙ sym v
 
 module _ (k : Kind) (e w : List ℕ) where
@@ -132,21 +132,21 @@ module _ (k : Kind) (e w : List ℕ) where
       let r = settingsOf k c in
       let f = selected-acts c t h in
       let z = reaches-it s x r f in
-      let l = ask-order k x (clearing s x) (r .swap) (turning (s .speed) (x .speed)) (r .speed)
+      let l = request-order k x (clearing s x) (r .swap) (turning (s .speed) (x .speed)) (r .speed)
       (λ g. clearing-needed (s .swap) (x .swap) (r .swap) g (z .0))
       (turning-needed (s .speed) (x .speed) (r .speed) (z .1))
       (request-storable k s x (settings-storable k w) .3)
       (settings-storable k c .3) in
-      let u = row-asks k c q t in
+      let u = row-request k c q t in
       rw (← u) (rw (← (request-is s x r f)) at l)
 
   own-selected : selected (own k e w) ≡ true
   unfolding own
-  own-selected = ask-selected k (requestFor x (clearing s x) (turning (s .speed) (x .speed)))
+  own-selected = request-selected k (requestFor x (clearing s x) (turning (s .speed) (x .speed)))
 
   own-row : Row k (own k e w)
   unfolding own
-  own-row = let r = requestFor x (clearing s x) (turning (s .speed) (x .speed)) in (ask-length k r, ask-small k r, ask-fine k r)
+  own-row = let r = requestFor x (clearing s x) (turning (s .speed) (x .speed)) in (request-length k r, request-small k r, request-fine k r)
 
   -- settings that a type may have, which a SWAP does not keep from e
   abbrev pub Can : Type 0
@@ -168,7 +168,7 @@ module _ (k : Kind) (e w : List ℕ) where
     unfolding own settled
     own-reaches =
         let r = requestFor x (clearing s x) (turning (s .speed) (x .speed)) in
-        ap (λ (c : Control). pick (c .select) (settingsBytes k (acted (c .request) s)) e) (ask-control k r (request-storable k s x (settings-storable k w)))
+        ap (λ (c : Control). pick (c .select) (settingsBytes k (acted (c .request) s)) e) (request-control k r (request-storable k s x (settings-storable k w)))
         ∙ ap (settingsBytes k) (request-reaches s x (clearing s x) (turning (s .speed) (x .speed)) own-request)
         ∙ stored-is
 

@@ -26,9 +26,9 @@ or-select : (x : ℕ) → x < 128 → bitOr x 128 ≡ 128 + x
 or-select x h =
     eqb-true (bitOr x 128) (128 + x) (byByteIf (λ b. ltb b 128) (λ b. eqb (bitOr b 128) (128 + b)) refl x (omega arith) (lt-ltb x 128 h))
 
-pub ask-is : (k : Kind) (r : Settings) {e : List ℕ} → e ≡ settingsBytes k r → bitOr (getD e 0 0) 128 ∷ getD e 1 0 ∷ getD e 2 0 ∷ getD e 3 0 ∷ [] ≡ requestBytes k r
+pub request-bytes-is : (k : Kind) (r : Settings) {e : List ℕ} → e ≡ settingsBytes k r → bitOr (getD e 0 0) 128 ∷ getD e 1 0 ∷ getD e 2 0 ∷ getD e 3 0 ∷ [] ≡ requestBytes k r
 unfolding requestBytes
-ask-is k r {e} p =
+request-bytes-is k r {e} p =
     let h : getD e 0 0 < 128 = rw p (first-small k r) in
     ap (λ (x : ℕ). x ∷ getD e 1 0 ∷ getD e 2 0 ∷ getD e 3 0 ∷ []) (or-select (getD e 0 0) h) ∙ ap withSelect p
 

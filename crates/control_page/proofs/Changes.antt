@@ -141,7 +141,7 @@ twice s p = by-case (valid s p) accepted-twice refused-twice
     refused-twice v = ap (λ (x : List ℕ). after x p) (pick-no (valid s p) (withSettings s (broughtTo s p)) s v)
 
     settled-again : (at : Places) (e : List ℕ) → settled (at .kind) (actingAt p at) (settled (at .kind) (actingAt p at) e) ≡ settled (at .kind) (actingAt p at) e
-    settled-again at e = settled-twice (at .kind) (fourAt p (at .overall)) (fourAt p (at .own)) e
+    settled-again at e = settled-twice (at .kind) (fourAt p (at .overallplace)) (fourAt p (at .ownplace)) e
 
     accepted-twice : valid s p ≡ true → after (after s p) p ≡ after s p
     accepted-twice v =

@@ -40,17 +40,17 @@ module _ (s : List ℕ) (j : ℕ) where
   acted-by k e t hc hf hx hy hg ho = ho ∙ ap (settingsPut s j) (hg ∙ rw (hy, hx, hc, hf) (sym (settled-by k e (settingsAt s j) t)))
 
   -- by its own control element, by the overall one, by none
-  module _ (p : List ℕ) {at : Places} {b : List ℕ} (q : at ≡ placesOf s j) (hb : b ≡ fourAt p (at .own)) where
-    made : (e : List ℕ) → chosen (controlOf (at .kind) (fourAt p (at .overall))) (controlOf (at .kind) (fourAt p (at .own))) ≡ controlOf (at .kind) e
+  module _ (p : List ℕ) {at : Places} {b : List ℕ} (q : at ≡ placesOf s j) (hb : b ≡ fourAt p (at .ownplace)) where
+    made : (e : List ℕ) → chosen (controlOf (at .kind) (fourAt p (at .overallplace))) (controlOf (at .kind) (fourAt p (at .ownplace))) ≡ controlOf (at .kind) e
         → settled (at .kind) (controlOf (at .kind) e) (settingsAt s j) ≡ settingsAfter s p j
     unfolding settingsAfter
     made e h = ap (λ (c : Control). settled (at .kind) c (settingsAt s j)) (sym h) ∙ ap (λ (z : Places). settled (z .kind) (actingAt p z) (settingsAt s j)) q
 
     pub by-own : {o : List ℕ} → selected b ≡ true → o ≡ settingsPut s j (settled (at .kind) (controlOf (at .kind) b) (settingsAt s j))
         → o ≡ settingsPut s j (settingsAfter s p j)
-    by-own t ho = ho ∙ ap (settingsPut s j) (made b (rw (← hb) (own-acts (at .kind) (fourAt p (at .overall)) b t)))
+    by-own t ho = ho ∙ ap (settingsPut s j) (made b (rw (← hb) (own-acts (at .kind) (fourAt p (at .overallplace)) b t)))
 
-    module _ {a : List ℕ} (ha : a ≡ fourAt p (at .overall)) (f : selected b ≡ false) where
+    module _ {a : List ℕ} (ha : a ≡ fourAt p (at .overallplace)) (f : selected b ≡ false) where
       by-rest : settled (at .kind) (controlOf (at .kind) a) (settingsAt s j) ≡ settingsAfter s p j
       by-rest = made a (rw (← hb, ← ha) (overall-acts (at .kind) a b f))
 

@@ -15,7 +15,7 @@ use Rattle.control_page.specs.Tests.{valid}
 
 -- the control element that acts on an element with these slots
 abbrev pub actingAt : List ℕ → Places → Control
-actingAt p at = chosen (controlOf (at .kind) (fourAt p (at .overall))) (controlOf (at .kind) (fourAt p (at .own)))
+actingAt p at = chosen (controlOf (at .kind) (fourAt p (at .overallplace))) (controlOf (at .kind) (fourAt p (at .ownplace)))
 
 -- the settings of element j after the page, as the shelf stores them
 unfoldable pub settingsAfter : List ℕ → List ℕ → ℕ → List ℕ

@@ -34,12 +34,12 @@ fn act_on(shelf: &mut [u8], page: &[u8], at: Places, j: u16)
     ensures { λ _. ⌜ now (shelf .exit) ≡ settingsPut (now (shelf .entry)) j (settingsAfter (now (shelf .entry)) (now (page .entry)) j) ⌝ }
 {
     let kind = at.kind;
-    let own = bits::four_at(page, at.own);
+    let own = bits::four_at(page, at.ownplace);
     if Control::is_selected(own) {
         act_by(shelf, kind, own, j);
         return;
     }
-    let overall = bits::four_at(page, at.overall);
+    let overall = bits::four_at(page, at.overallplace);
     if Control::is_selected(overall) {
         act_by(shelf, kind, overall, j);
     }

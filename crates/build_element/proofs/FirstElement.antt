@@ -10,12 +10,15 @@ use lib.ListN.{length, getD}
 use borrow.Author.Tests.{eqb-true, eqb-false, eq-eqb}
 use Rattle.bits.specs.Choice.{pick}
 use Rattle.bits.specs.Bits.{num}
+use Rattle.bits.specs.Places.{fourAt}
 use Rattle.bits.proofs.Logic.{never, by-case, pick-yes, and-four}
 use Rattle.bits.proofs.Rows.{as-four}
 use Rattle.build_order.specs.Order.{InOrder, NotAfter}
 use Rattle.element.specs.declared.types.Kind.{Kind}
 use Rattle.element.specs.declared.settings.Settings.{Settings}
 use Rattle.element.specs.declared.control.Control.{Control}
+use Rattle.element.specs.Layouts.{said}
+use Rattle.element.specs.Types.{layoutOf}
 use Rattle.element.specs.Settings.{settingsOf, settingsBytes, settingsFormed}
 use Rattle.element.specs.Control.{selected, unselected, asking, controlOf, offending, chosen, speedAfter, acted, settled}
 use Rattle.element.proofs.SettingsBothWays.{four}
@@ -36,7 +39,7 @@ four-zeros a b c d =
     zero-order a (0 ∷ 0 ∷ 0 ∷ []) (b ∷ c ∷ d ∷ [])
     (zero-order b (0 ∷ 0 ∷ []) (c ∷ d ∷ []) (zero-order c (0 ∷ []) (d ∷ []) (zero-order d [] [] tt)))
 
-pub silent-first : (c : List ℕ) → length c ≡ 4 → InOrder silent c
+silent-first : (c : List ℕ) → length c ≡ 4 → InOrder silent c
 silent-first c h = rw (as-four c h) (four-zeros (getD c 0 0) (getD c 1 0) (getD c 2 0) (getD c 3 0))
 
 -- RST SWAP and the speed code are needed where they are sent
@@ -77,13 +80,19 @@ turned s w h = by-case (eqb s w) (λ e. rw e (eqb-true s w e)) (λ e. rw e (by-c
     stops e t = let z = eqb-true w 0 t in eqb-false s w e (h z ∙ sym z)
 
 -- four bytes that are alike are the same
-pub alike-same : (a b : List ℕ) → length a ≡ 4 → length b ≡ 4 → alike a b ≡ true → a ≡ b
+alike-four : (a b : List ℕ) → alike a b ≡ true → fourAt a 0 ≡ fourAt b 0
 unfolding alike
-alike-same a b m n t =
+alike-four a b t =
     let h = and-four (eqb (getD a 0 0) (getD b 0 0)) (eqb (getD a 1 0) (getD b 1 0)) (eqb (getD a 2 0) (getD b 2 0)) (eqb (getD a 3 0) (getD b 3 0)) t in
-    as-four a m
-    ∙ four (eqb-true _ _ (h .0)) (eqb-true _ _ (h .1)) (eqb-true _ _ (h .2)) (eqb-true _ _ (h .3))
-    ∙ sym (as-four b n)
+    four (eqb-true _ _ (h .0)) (eqb-true _ _ (h .1)) (eqb-true _ _ (h .2)) (eqb-true _ _ (h .3))
+
+pub alike-same : (a b : List ℕ) → length a ≡ 4 → length b ≡ 4 → alike a b ≡ true → a ≡ b
+alike-same a b m n t = as-four a m ∙ alike-four a b t ∙ sym (as-four b n)
+
+-- and say the same settings
+pub alike-says : (k : Kind) (a b : List ℕ) → alike a b ≡ true → settingsOf k a ≡ settingsOf k b
+unfolding settingsOf
+alike-says k a b t = ap (said (layoutOf k)) (alike-four a b t)
 
 alike-self : (w a : List ℕ) → a ≡ w → alike a w ≡ true
 unfolding alike
@@ -118,19 +127,19 @@ module _ (k : Kind) (e w : List ℕ) where
   abbrev x : Settings
   x = settingsOf k w
 
-  -- what a selected element says that brings e to w
-  pub selected-acts : (c : List ℕ) → selected c ≡ true → settled k (controlOf k c) e ≡ w → acted (settingsOf k c) s ≡ x
+  -- what a selected element says that brings e to the settings of w
+  pub selected-acts : (c : List ℕ) → selected c ≡ true → settingsOf k (settled k (controlOf k c) e) ≡ x → acted (settingsOf k c) s ≡ x
   unfolding settled controlOf
   selected-acts c t h =
       let r = settingsOf k c in
-      let g : settingsBytes k (acted r s) ≡ w = sym (ap (λ (b : Bool). pick (pick b (asking r) unselected .select) (settingsBytes k (acted (pick b (asking r) unselected .request) s)) e) t) ∙ h in
-      sym (settings-back k (acted r s) (asked-storable k r s (settings-storable k c) (settings-storable k e))) ∙ ap (settingsOf k) g
+      let g : settled k (controlOf k c) e ≡ settingsBytes k (acted r s) = ap (λ (b : Bool). settled k (pick b (asking r) unselected) e) t in
+      sym (settings-back k (acted r s) (asked-storable k r s (settings-storable k c) (settings-storable k e))) ∙ ap (settingsOf k) (sym g) ∙ h
 
   own-first : (c : List ℕ) → Row k c → selected c ≡ true → settled k (controlOf k c) e ≡ w → InOrder (own k e w) c
   unfolding own
   own-first c q t h =
       let r = settingsOf k c in
-      let f = selected-acts c t h in
+      let f = selected-acts c t (ap (settingsOf k) h) in
       let z = reaches-it s x r f in
       let l = request-order k x (clearing s x) (r .swap) (turning (s .speed) (x .speed)) (r .speed)
       (λ g. clearing-needed (s .swap) (x .swap) (r .swap) g (z .0))
@@ -178,7 +187,7 @@ module _ (k : Kind) (e w : List ℕ) where
     abbrev effect : List ℕ → List ℕ
     effect d = settled k (chosen c (controlOf k d)) e
 
-    pub effect-off : (d : List ℕ) → selected d ≡ false → effect d ≡ settled k c e
+    effect-off : (d : List ℕ) → selected d ≡ false → effect d ≡ settled k c e
     unfolding chosen controlOf
     effect-off d t = rw t
 

@@ -1,6 +1,6 @@
 -- The element that asks for given settings: its bytes, and what they say. Assumes nothing.
 use mathlib.Core.Path.{_≡_, refl, sym, ap, _∙_}
-use mathlib.Core.Bool.{Bool, true, false, not, _&&_, _||_}
+use mathlib.Core.Bool.{Bool, true, false, not, _||_}
 use mathlib.Core.List.{List, [], _∷_}
 use Prim.Native.Nat.{ℕ, _+_, _/_, _%_, _<_, _≤_}
 use native.Mathlib.Omega.{arith}
@@ -9,8 +9,6 @@ use lib.Dec.{eqb, leb, ltb}
 use lib.ListN.{getD}
 use borrow.Author.Tests.{eqb-true, eq-eqb, ne-eqb, lt-ltb, le-leb, lt-leb}
 use Rattle.bits.specs.Bits.{num, bit}
-use Rattle.bits.specs.Numbers.{big}
-use Rattle.bits.specs.Places.{fourAt}
 use Rattle.bits.proofs.Logic.{byByteIf}
 use Rattle.element.specs.declared.types.Kind.{Kind}
 use Rattle.element.specs.declared.settings.Settings.{Settings}
@@ -20,7 +18,7 @@ use Rattle.element.specs.Control.{selected, controlOf, acted}
 use Rattle.element.proofs.Acting.{settled-by, settled-alone}
 use Rattle.build_element.specs.Wishes.{inReach, alike, silent, withSelect, requestBytes, requestFor, clearing, turning, own, brings, one}
 use Rattle.build_element.proofs.SoundLayout.{first-small}
-use Rattle.build_element.specs.Parts.{selects, tried, tries, sooner}
+use Rattle.build_element.specs.Parts.{selects, tried, tries}
 
 or-select : (x : ℕ) → x < 128 → bitOr x 128 ≡ 128 + x
 or-select x h =
@@ -86,6 +84,3 @@ module _ (k : Kind) (x : List ℕ) {s : Settings} (p : s ≡ settingsOf k x) whe
   pub four-tries : (s .speed ≡ 0 → ⊥) → 4 ≡ tries k x
   unfolding tries
   four-tries h = let t : eqb (s .speed) 0 ≡ false = ne-eqb _ _ h in rw (← p, t)
-
-pub sooner-is : (m n : ℕ) (p q : List ℕ) {x y : ℕ} → x ≡ big (fourAt p 0) → y ≡ big (fourAt q 0) → ltb m n || (eqb m n && ltb x y) ≡ sooner m p n q
-sooner-is m n p q hx hy = rw (hx, hy)

@@ -5,7 +5,7 @@ use element::types::Kind;
 ghost use mathlib.Core.Path.{_≡_};
 ghost use Rattle.element.specs.Control.{controlOf};
 ghost use Rattle.build_element.specs.Wishes.{inReach, alike, requestBytes, requestFor, turning, own, brings, one};
-ghost use Rattle.build_element.specs.Parts.{tried, tries, sooner};
+ghost use Rattle.build_element.specs.Parts.{tried, tries};
 
 // Asks for nothing.
 pub const SILENT: [u8; 4] = [0, 0, 0, 0];
@@ -110,11 +110,4 @@ pub fn tries(kind: Kind, wanted: [u8; 4]) -> u8
     } else {
         4
     }
-}
-
-// Of two overall elements and the SELECTs that each needs: whether the first is the better one.
-pub fn sooner(m: u32, p: [u8; 4], n: u32, q: [u8; 4]) -> bool
-    ensures { λ r. ⌜ r ≡ sooner m p n q ⌝ }
-{
-    (m < n) | ((m == n) & (bits::big32_at(&p, 0) < bits::big32_at(&q, 0)))
 }

@@ -42,7 +42,7 @@ fn try_one(shelf: &[u8], wanted: &[u8], at: Slot, best: Candidate, overall: [u8;
 {
     let selects = cost(shelf, wanted, at, overall);
     let so_far = best.overall;
-    if build_element::sooner(selects, overall, best.selects, so_far) {
+    if build_order::sooner(selects, overall, best.selects, so_far) {
         Candidate { overall, selects }
     } else {
         best

@@ -12,7 +12,7 @@ use Rattle.bits.specs.Choice.{pick, sumBelow}
 use Rattle.bits.specs.Rows.{joined}
 use Rattle.bits.proofs.Logic.{by-case, pick-no}
 use Rattle.build_order.specs.Order.{NotAfter}
-use Rattle.build_order.specs.Search.{cost, bestTried, best}
+use Rattle.build_order.specs.Search.{Search, cost, bestTried, best}
 use Rattle.build_order.proofs.Dictionary.{by-number}
 use Rattle.build_order.proofs.ByCount.{after-refl, after-trans, after-append, after-rows, sum-same}
 use Rattle.build_order.proofs.BestRow.{TriedFor, AsGood, Facts, best-first, tried-again}
@@ -78,8 +78,11 @@ unfolding controlOf
 unselected-control k o t = pick-no _ _ _ t
 
 module _ (k : Kind) (e w : ℕ → List ℕ) (m : ℕ) where
+  abbrev q : Search
+  q = overallSearch k e w m
+
   -- one that is not selected serves what the start does
-  off : (o : List ℕ) → selected o ≡ false → AsGood (overallSearch k e w m) silent o
+  off : (o : List ℕ) → selected o ≡ false → AsGood q silent o
   off o t = (
     (λ i l h. ap (λ (c : Control). brings k c (e i) (w i)) (sym (unselected-control k o t)) ∙ h),
     omega arith,
@@ -87,15 +90,15 @@ module _ (k : Kind) (e w : ℕ → List ℕ) (m : ℕ) where
   )
 
   -- and one that is selected is tried itself
-  itself : (o : List ℕ) → AsGood (overallSearch k e w m) o o
+  itself : (o : List ℕ) → AsGood q o o
   itself o = ((λ i l h. h), omega arith, omega arith)
 
   served : (o : List ℕ) → Row k o → (i : ℕ) → i < m → brings k (controlOf k o) (e i) (w i) ≡ true
-      → (b : List ℕ) × TriedFor (overallSearch k e w m) i b × AsGood (overallSearch k e w m) b o
+      → (b : List ℕ) × TriedFor q i b × AsGood q b o
   served o r i l h =
       by-case (selected o) (λ t. (o, inr (tried-all k (e i) (w i) o r t h), itself o)) (λ t. (silent, inl refl, off o t))
 
-  pub search-facts : Facts (overallSearch k e w m) (Row k)
+  pub search-facts : Facts q (Row k)
   search-facts = record {
     starts = (refl, silent-small, silent-fine k);
     tries = λ i v l. tried-row k (w i) v;
@@ -103,20 +106,20 @@ module _ (k : Kind) (e w : ℕ → List ℕ) (m : ℕ) where
     ordered = λ a b ha hb h. by-number a b (ha .0) (hb .0) (ha .1) (hb .1) h;
     free = refl;
     first = λ a h. omega arith;
-    counts = λ i v. rw (tried-selected k (w i) v) (omega arith);
+    counts = λ i v l. rw (tried-selected k (w i) v) (omega arith);
     covered = served;
   }
 
   -- what is counted is the SELECTs of the part
-  pub part-selects : (o : List ℕ) → cost (overallSearch k e w m) o ≡ selects o + sumBelow (λ i. selects (under k e w o i)) m
+  pub part-selects : (o : List ℕ) → cost q o ≡ selects o + sumBelow (λ i. selects (under k e w o i)) m
   unfolding cost
   part-selects o = ap (λ (n : ℕ). selects o + n) (sym (sum-same _ _ m (λ i l. one-selects k (e i) (w i) (controlOf k o))))
 
-  -- four rows would not find a better one than those that are tried
+  -- to try all four would find no better one
   module _ (x a : List ℕ) where
-    two-do : settingsOf k x .speed ≡ 0 → bestTried (overallSearch k e w m) x a 4 ≡ bestTried (overallSearch k e w m) x a 2
+    two-do : settingsOf k x .speed ≡ 0 → bestTried q x a 4 ≡ bestTried q x a 2
     unfolding tried
-    two-do z = tried-again (overallSearch k e w m) x a 2 2 again
+    two-do z = tried-again q x a 2 2 again
       where
         same : (b : Bool) → requestBytes k (requestFor (settingsOf k x) b (settingsOf k x .speed)) ≡ requestBytes k (requestFor (settingsOf k x) b 0)
         same b = ap (λ n. requestBytes k (requestFor (settingsOf k x) b n)) z
@@ -126,7 +129,7 @@ module _ (k : Kind) (e w : ℕ → List ℕ) (m : ℕ) where
         again (suc zero) l = unfold tried in (1, omega arith, same true)
         again (suc (suc t)) l = absurd (omega arith)
 
-    pub tries-do : bestTried (overallSearch k e w m) x a (tries k x) ≡ bestTried (overallSearch k e w m) x a 4
+    pub tries-do : bestTried q x a (tries k x) ≡ bestTried q x a 4
     unfolding tries
     tries-do = by-case (eqb (settingsOf k x .speed) 0) (λ t. rw t (sym (two-do (eqb-true _ 0 t)))) (λ t. rw t)
 
@@ -142,16 +145,15 @@ module _ (k : Kind) (e w : ℕ → List ℕ) (m : ℕ) where
         after-rows selects 4 (under k e w o) c (λ i. one-row k (e i) (w i) (controlOf k o) .0) hc m
         (λ i l. one-first k (e i) (w i) (controlOf k o) (c i) (rows i l) (acts i l))
 
-    same-overall : NotAfter (cost (overallSearch k e w m) o) (part k e w m o) (selects o + theirs) (o ++ joined c m)
+    same-overall : NotAfter (cost q o) (part k e w m o) (selects o + theirs) (o ++ joined c m)
     same-overall =
         rw (part-selects o)
         (after-append (selects o) (selects o) (sumBelow (λ i. selects (under k e w o i)) m) theirs o o (joined (under k e w o) m) (joined c m) refl
         (after-refl (selects o) o)
         fill)
 
-    pub part-first : let q = overallSearch k e w m in NotAfter (cost q (best q)) (part k e w m (best q)) (selects o + theirs) (o ++ joined c m)
+    pub part-first : NotAfter (cost q (best q)) (part k e w m (best q)) (selects o + theirs) (o ++ joined c m)
     part-first =
-        let q = overallSearch k e w m in
         let b = best q in
         after-trans (cost q b) (cost q o) (selects o + theirs) (part k e w m b) (part k e w m o) (o ++ joined c m)
         (best-first q (Row k) search-facts (λ a. joined (under k e w a) m) o ho)

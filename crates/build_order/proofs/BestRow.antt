@@ -196,37 +196,28 @@ module _ (q : Search) where
       -- the start costs nothing by itself and is the first in the dictionary; what is tried costs something
       pub free : q .alone (q .start) ≡ 0
       pub first : (a : List ℕ) → Row a → q .number (q .start) ≤ q .number a
-      pub counts : (i v : ℕ) → 1 ≤ q .alone (q .tried (q .wanted i) v)
+      pub counts : (i v : ℕ) → v < q .tries (q .wanted i) → 1 ≤ q .alone (q .tried (q .wanted i) v)
       -- for a row that serves an element, one that is as good is tried for that element
       pub covered : (a : List ℕ) → Row a → (i : ℕ) → i < q .many → q .serves a i ≡ true → (b : List ℕ) × TriedFor i b × AsGood b a
 
     module _ (f : Facts) where
-      pub best-row : Row (best q)
-      unfolding best
-      best-row = go (q .many)
-        where
-          go : (n : ℕ) → Row (bestOf q n)
-          go zero = f .starts
-          go (suc n) = upto-in (q .wanted n) (bestOf q n) Row (go n) (q .tries (q .wanted n)) (f .tries n)
+      pub best-row : (n : ℕ) → Row (bestOf q n)
+      best-row zero = f .starts
+      best-row (suc n) = upto-in (q .wanted n) (bestOf q n) Row (best-row n) (q .tries (q .wanted n)) (f .tries n)
 
       -- nothing is better where the start costs one at most
-      pub best-none : cost q (q .start) ≤ 1 → best q ≡ q .start
-      unfolding best
-      best-none h = go (q .many)
-        where
-          none : (i v : ℕ) → v < q .tries (q .wanted i) → Ranks (q .start) (q .tried (q .wanted i) v)
-          none i v l = ranks-le (q .start) (q .tried (q .wanted i) v) dearer (f .first _ (f .tries i v l))
-            where
-              dearer : cost q (q .start) ≤ cost q (q .tried (q .wanted i) v)
-              dearer = let z : 1 ≤ cost q (q .tried (q .wanted i) v) = unfold cost in omega (arith, f .counts i v) in omega arith
+      tried-counts : (i v : ℕ) → v < q .tries (q .wanted i) → 1 ≤ cost q (q .tried (q .wanted i) v)
+      unfolding cost
+      tried-counts i v l = omega (arith, f .counts i v l)
 
-          go : (n : ℕ) → bestOf q n ≡ q .start
-          go zero = refl
-          go (suc n) =
-              ap (λ (y : List ℕ). bestTried q (q .wanted n) y (q .tries (q .wanted n))) (go n)
-              ∙ upto-same (q .wanted n) (q .start) (q .tries (q .wanted n)) (none n)
+      pub best-none : cost q (q .start) ≤ 1 → (n : ℕ) → bestOf q n ≡ q .start
+      best-none h zero = refl
+      best-none h (suc n) =
+          ap (λ (y : List ℕ). bestTried q (q .wanted n) y (q .tries (q .wanted n))) (best-none h n)
+          ∙ upto-same (q .wanted n) (q .start) (q .tries (q .wanted n))
+          (λ v l. ranks-le (q .start) (q .tried (q .wanted n) v) (omega (arith, tried-counts n v l)) (f .first _ (f .tries n v l)))
 
-      -- no row comes before the best: one that serves no element is after the start already
+      -- no row comes before the best: one that serves no element does not come before the start
       best-ranks : (a : List ℕ) → Row a → Ranks (best q) a
       unfolding best
       best-ranks a r = by-case (ltb (firstBelow (q .serves a) (q .many)) (q .many)) (λ t. some (ltb-true _ _ t)) (λ t. none (ltb-false _ _ t))
@@ -250,11 +241,14 @@ module _ (q : Search) where
       pub best-first : (rest : List ℕ → List ℕ) (a : List ℕ) → Row a → NotAfter (cost q (best q)) (best q ++ rest (best q)) (cost q a) (a ++ rest a)
       best-first rest a r = go (best-ranks a r)
         where
+          found : Row (best q)
+          found = unfold best in best-row (q .many)
+
           go : Ranks (best q) a → NotAfter (cost q (best q)) (best q ++ rest (best q)) (cost q a) (a ++ rest a)
           go (inl h) = inl h
           go (inr h) =
               inr (
                 h .0,
-                order-front (best q) a (rest (best q)) (rest a) (f .long (best q) a best-row r) (f .ordered (best q) a best-row r (h .1))
+                order-front (best q) a (rest (best q)) (rest a) (f .long (best q) a found r) (f .ordered (best q) a found r (h .1))
                     (λ e. rw e (order-refl (rest a))),
               )

@@ -143,8 +143,8 @@ module _ (s w : List ℕ) (at : Slot) where
     record-new h g e = e ∙ rw h (ap (λ (y : List ℕ). ranked s w at (bestTried q y (bestOf q n) (tries (at .kind) y))) (g ∙ sym wanted-is))
 
   pub none-chosen : {n : ℕ} → n ≡ costOf s w at silent → n ≤ 1 → silent ≡ overallOf s w at
-  unfolding overallOf costOf
-  none-chosen h l = sym (best-none q (Row (at .kind)) (search-facts (at .kind) (storedFrom s (at .first)) (wantedFrom w (at .first)) (q .many)) (rw (← h) l))
+  unfolding overallOf costOf best
+  none-chosen h l = sym (best-none q (Row (at .kind)) (search-facts (at .kind) (storedFrom s (at .first)) (wantedFrom w (at .first)) (q .many)) (rw (← h) l) (q .many))
 
   pub first-best : {n : ℕ} → n ≡ costOf s w at silent → record { overall = silent; selects = n } ≡ bestAmong s w at (at .first - at .first)
   unfolding bestAmong

@@ -15,7 +15,7 @@ use Rattle.bits.specs.Rows.{joined}
 use Rattle.bits.proofs.Logic.{first-small}
 use Rattle.bits.proofs.Rows.{joined-four, joined-same, length-joined}
 use Rattle.build_order.specs.Order.{NotAfter}
-use Rattle.build_order.specs.Search.{cost}
+use Rattle.build_order.specs.Search.{cost, best}
 use Rattle.build_order.proofs.BestRow.{best-row}
 use Rattle.build_order.proofs.ByCount.{after-refl, after-append, joined-split, sum-same, sum-split}
 use Rattle.element.specs.declared.types.Kind.{Kind}
@@ -62,14 +62,14 @@ four-small q h m (suc (suc (suc (suc i)))) = omega arith
 
 -- each slot of the page is a control element of its type
 pub rowFor-row : (s w : List ℕ) (i : ℕ) → Row (slotAt s i .kind) (rowFor s w i)
-unfolding rowFor rowUnder overallIn slotAt
+unfolding rowFor rowUnder overallIn best slotAt
 rowFor-row s w i =
     let t = slotType s i in
     let at = slotAt s i in
     let k = typeKind s t in
     let o = overallIn s w t in
     go (at .overall) o (one k (controlOf k o) (settingsAt s (at .first)) (settingsIn w (at .first)))
-    (best-row (searchIn s w t) (Row k) (search-facts k (storedIn s t) (wantedIn s w t) (typeCount s t)))
+    (best-row (searchIn s w t) (Row k) (search-facts k (storedIn s t) (wantedIn s w t) (typeCount s t)) (typeCount s t))
     (one-row k (settingsAt s (at .first)) (settingsIn w (at .first)) (controlOf k o))
   where
     go : (b : Bool) (x y : List ℕ) → Row (typeKind s (slotType s i)) x → Row (typeKind s (slotType s i)) y → Row (typeKind s (slotType s i)) (pick b x y)

@@ -12,7 +12,7 @@ use Rattle.bits.specs.Numbers.{Bytes}
 use Rattle.bits.specs.Places.{fourAt}
 use Rattle.bits.proofs.Halves.{num-small}
 use Rattle.bits.proofs.Logic.{by-case, pick-yes, pick-no}
-use Rattle.build_order.specs.Search.{cost}
+use Rattle.build_order.specs.Search.{cost, best}
 use Rattle.build_order.proofs.BestRow.{best-none}
 use Rattle.element.specs.declared.types.Kind.{Kind}
 use Rattle.element.specs.Control.{controlOf}
@@ -64,8 +64,8 @@ module _ (s w : List ℕ) (f : frontFormed s ≡ true) (j : ℕ) (same : (i : �
     few = omega (arith, at-most-one (λ i. not (brings k (controlOf k silent) (storedIn s t i) (wantedIn s w t i))) j (before s t) (typeCount s t) left)
 
     none-overall : overallIn s w t ≡ silent
-    unfolding overallIn
-    none-overall = best-none (searchIn s w t) (Row k) (search-facts k (storedIn s t) (wantedIn s w t) (typeCount s t)) few
+    unfolding overallIn best
+    none-overall = best-none (searchIn s w t) (Row k) (search-facts k (storedIn s t) (wantedIn s w t) (typeCount s t)) few (typeCount s t)
 
   module _ (i : ℕ) (h : i < slotsOf s) where
     type-there : slotType s i < typesOf s

@@ -10,21 +10,24 @@ use lib.ListN.{length, getD}
 use borrow.Author.Tests.{eqb-true, eqb-false, eq-eqb}
 use Rattle.bits.specs.Choice.{pick}
 use Rattle.bits.specs.Bits.{num}
+use Rattle.bits.specs.Places.{fourAt}
 use Rattle.bits.proofs.Logic.{never, by-case, pick-yes, and-four}
 use Rattle.bits.proofs.Rows.{as-four}
 use Rattle.build_order.specs.Order.{InOrder, NotAfter}
 use Rattle.element.specs.declared.types.Kind.{Kind}
 use Rattle.element.specs.declared.settings.Settings.{Settings}
 use Rattle.element.specs.declared.control.Control.{Control}
+use Rattle.element.specs.Layouts.{said}
+use Rattle.element.specs.Types.{layoutOf}
 use Rattle.element.specs.Settings.{settingsOf, settingsBytes, settingsFormed}
 use Rattle.element.specs.Control.{selected, unselected, asking, controlOf, offending, chosen, speedAfter, acted, settled}
 use Rattle.element.proofs.SettingsBothWays.{four}
 use Rattle.element.proofs.StoredSettings.{settings-back, settings-again, settings-storable, asked-storable}
 use Rattle.element.proofs.Acting.{settled-length}
 use Rattle.build_element.specs.Wishes.{silent, alike, requestBytes, requestFor, clearing, turning, own, brings, one}
-use Rattle.build_element.proofs.SoundLayout.{ask-order, no-stop, request-storable}
-use Rattle.build_element.proofs.Requests.{Reaches, ask-again, request-reaches, request-is, reaches-it}
-use Rattle.build_element.proofs.RequestSays.{ask-selected, ask-fine, ask-length, ask-small, ask-control, silent-control, silent-fine}
+use Rattle.build_element.proofs.SoundLayout.{request-order, no-stop, request-storable}
+use Rattle.build_element.proofs.Requests.{Reaches, request-again, request-reaches, request-is, reaches-it}
+use Rattle.build_element.proofs.RequestSays.{request-selected, request-fine, request-length, request-small, request-control, silent-control, silent-fine}
 
 -- four zeros come first
 zero-order : (a : ℕ) (p q : List ℕ) → InOrder p q → InOrder (0 ∷ p) (a ∷ q)
@@ -36,7 +39,7 @@ four-zeros a b c d =
     zero-order a (0 ∷ 0 ∷ 0 ∷ []) (b ∷ c ∷ d ∷ [])
     (zero-order b (0 ∷ 0 ∷ []) (c ∷ d ∷ []) (zero-order c (0 ∷ []) (d ∷ []) (zero-order d [] [] tt)))
 
-pub silent-first : (c : List ℕ) → length c ≡ 4 → InOrder silent c
+silent-first : (c : List ℕ) → length c ≡ 4 → InOrder silent c
 silent-first c h = rw (as-four c h) (four-zeros (getD c 0 0) (getD c 1 0) (getD c 2 0) (getD c 3 0))
 
 -- RST SWAP and the speed code are needed where they are sent
@@ -77,13 +80,19 @@ turned s w h = by-case (eqb s w) (λ e. rw e (eqb-true s w e)) (λ e. rw e (by-c
     stops e t = let z = eqb-true w 0 t in eqb-false s w e (h z ∙ sym z)
 
 -- four bytes that are alike are the same
-pub alike-same : (a b : List ℕ) → length a ≡ 4 → length b ≡ 4 → alike a b ≡ true → a ≡ b
+alike-four : (a b : List ℕ) → alike a b ≡ true → fourAt a 0 ≡ fourAt b 0
 unfolding alike
-alike-same a b m n t =
+alike-four a b t =
     let h = and-four (eqb (getD a 0 0) (getD b 0 0)) (eqb (getD a 1 0) (getD b 1 0)) (eqb (getD a 2 0) (getD b 2 0)) (eqb (getD a 3 0) (getD b 3 0)) t in
-    as-four a m
-    ∙ four (eqb-true _ _ (h .0)) (eqb-true _ _ (h .1)) (eqb-true _ _ (h .2)) (eqb-true _ _ (h .3))
-    ∙ sym (as-four b n)
+    four (eqb-true _ _ (h .0)) (eqb-true _ _ (h .1)) (eqb-true _ _ (h .2)) (eqb-true _ _ (h .3))
+
+pub alike-same : (a b : List ℕ) → length a ≡ 4 → length b ≡ 4 → alike a b ≡ true → a ≡ b
+alike-same a b m n t = as-four a m ∙ alike-four a b t ∙ sym (as-four b n)
+
+-- and say the same settings
+pub alike-says : (k : Kind) (a b : List ℕ) → alike a b ≡ true → settingsOf k a ≡ settingsOf k b
+unfolding settingsOf
+alike-says k a b t = ap (said (layoutOf k)) (alike-four a b t)
 
 alike-self : (w a : List ℕ) → a ≡ w → alike a w ≡ true
 unfolding alike
@@ -103,12 +112,12 @@ silent-not : (k : Kind) → selected silent ≡ false
 silent-not k = refl
 
 -- a selected one asks for what it says
-pub row-asks : (k : Kind) (c : List ℕ) → Row k c → selected c ≡ true → requestBytes k (settingsOf k c) ≡ c
-row-asks k c q t =
+pub row-request : (k : Kind) (c : List ℕ) → Row k c → selected c ≡ true → requestBytes k (settingsOf k c) ≡ c
+row-request k c q t =
     let b = q .1 in
     let v = as-four c (q .0) in
     ap (λ (y : List ℕ). requestBytes k (settingsOf k y)) v
-    ∙ ask-again k (getD c 0 0) (getD c 1 0) (getD c 2 0) (getD c 3 0) (b 0) (b 3) (ap selected (sym v) ∙ t) (ap (offending k) (sym v) ∙ q .2)
+    ∙ request-again k (getD c 0 0) (getD c 1 0) (getD c 2 0) (getD c 3 0) (b 0) (b 3) (ap selected (sym v) ∙ t) (ap (offending k) (sym v) ∙ q .2)
     ∙ sym v
 
 module _ (k : Kind) (e w : List ℕ) where
@@ -118,35 +127,35 @@ module _ (k : Kind) (e w : List ℕ) where
   abbrev x : Settings
   x = settingsOf k w
 
-  -- what a selected element says that brings e to w
-  pub selected-acts : (c : List ℕ) → selected c ≡ true → settled k (controlOf k c) e ≡ w → acted (settingsOf k c) s ≡ x
+  -- what a selected element says that brings e to the settings of w
+  pub selected-acts : (c : List ℕ) → selected c ≡ true → settingsOf k (settled k (controlOf k c) e) ≡ x → acted (settingsOf k c) s ≡ x
   unfolding settled controlOf
   selected-acts c t h =
       let r = settingsOf k c in
-      let g : settingsBytes k (acted r s) ≡ w = sym (ap (λ (b : Bool). pick (pick b (asking r) unselected .select) (settingsBytes k (acted (pick b (asking r) unselected .request) s)) e) t) ∙ h in
-      sym (settings-back k (acted r s) (asked-storable k r s (settings-storable k c) (settings-storable k e))) ∙ ap (settingsOf k) g
+      let g : settled k (controlOf k c) e ≡ settingsBytes k (acted r s) = ap (λ (b : Bool). settled k (pick b (asking r) unselected) e) t in
+      sym (settings-back k (acted r s) (asked-storable k r s (settings-storable k c) (settings-storable k e))) ∙ ap (settingsOf k) (sym g) ∙ h
 
   own-first : (c : List ℕ) → Row k c → selected c ≡ true → settled k (controlOf k c) e ≡ w → InOrder (own k e w) c
   unfolding own
   own-first c q t h =
       let r = settingsOf k c in
-      let f = selected-acts c t h in
+      let f = selected-acts c t (ap (settingsOf k) h) in
       let z = reaches-it s x r f in
-      let l = ask-order k x (clearing s x) (r .swap) (turning (s .speed) (x .speed)) (r .speed)
+      let l = request-order k x (clearing s x) (r .swap) (turning (s .speed) (x .speed)) (r .speed)
       (λ g. clearing-needed (s .swap) (x .swap) (r .swap) g (z .0))
       (turning-needed (s .speed) (x .speed) (r .speed) (z .1))
       (request-storable k s x (settings-storable k w) .3)
       (settings-storable k c .3) in
-      let u = row-asks k c q t in
+      let u = row-request k c q t in
       rw (← u) (rw (← (request-is s x r f)) at l)
 
   own-selected : selected (own k e w) ≡ true
   unfolding own
-  own-selected = ask-selected k (requestFor x (clearing s x) (turning (s .speed) (x .speed)))
+  own-selected = request-selected k (requestFor x (clearing s x) (turning (s .speed) (x .speed)))
 
   own-row : Row k (own k e w)
   unfolding own
-  own-row = let r = requestFor x (clearing s x) (turning (s .speed) (x .speed)) in (ask-length k r, ask-small k r, ask-fine k r)
+  own-row = let r = requestFor x (clearing s x) (turning (s .speed) (x .speed)) in (request-length k r, request-small k r, request-fine k r)
 
   -- settings that a type may have, which a SWAP does not keep from e
   abbrev pub Can : Type 0
@@ -168,7 +177,7 @@ module _ (k : Kind) (e w : List ℕ) where
     unfolding own settled
     own-reaches =
         let r = requestFor x (clearing s x) (turning (s .speed) (x .speed)) in
-        ap (λ (c : Control). pick (c .select) (settingsBytes k (acted (c .request) s)) e) (ask-control k r (request-storable k s x (settings-storable k w)))
+        ap (λ (c : Control). pick (c .select) (settingsBytes k (acted (c .request) s)) e) (request-control k r (request-storable k s x (settings-storable k w)))
         ∙ ap (settingsBytes k) (request-reaches s x (clearing s x) (turning (s .speed) (x .speed)) own-request)
         ∙ stored-is
 
@@ -178,7 +187,7 @@ module _ (k : Kind) (e w : List ℕ) where
     abbrev effect : List ℕ → List ℕ
     effect d = settled k (chosen c (controlOf k d)) e
 
-    pub effect-off : (d : List ℕ) → selected d ≡ false → effect d ≡ settled k c e
+    effect-off : (d : List ℕ) → selected d ≡ false → effect d ≡ settled k c e
     unfolding chosen controlOf
     effect-off d t = rw t
 

@@ -31,32 +31,32 @@ module _ (k : Kind) (r : Settings) where
   unfolding settingsBytes
   head-only-at = head-only (getD (settingsBytes k r) 0 0) (omega (arith, first-small k r)) (first-clear (layoutOf k) (sound k) r)
 
-  pub ask-selected : selected (requestBytes k r) ≡ true
+  pub request-selected : selected (requestBytes k r) ≡ true
   unfolding requestBytes
-  ask-selected = head-selects (getD (settingsBytes k r) 0 0) (first-small k r)
+  request-selected = head-selects (getD (settingsBytes k r) 0 0) (first-small k r)
 
-  pub ask-fine : offending k (requestBytes k r) ≡ 4
+  pub request-fine : offending k (requestBytes k r) ≡ 4
   unfolding offending requestBytes settingsBytes
-  ask-fine =
+  request-fine =
       pick-yes (bit 7 (128 + getD (settingsBytes k r) 0 0)) _ 4 (head-selects (getD (settingsBytes k r) 0 0) (first-small k r))
       ∙ sym (reserved-unnamed k (withSelect (settingsBytes k r)))
       ∙ four-pass head-only-at (second-clear (layoutOf k) (sound k) r) (third-clear (layoutOf k) (sound k) r) (fourth-clear (layoutOf k) (sound k) r)
 
-  pub ask-length : length (requestBytes k r) ≡ 4
+  pub request-length : length (requestBytes k r) ≡ 4
   unfolding requestBytes
-  ask-length = refl
+  request-length = refl
 
-  pub ask-small : (i : ℕ) → getD (requestBytes k r) i 0 < 256
+  pub request-small : (i : ℕ) → getD (requestBytes k r) i 0 < 256
   unfolding requestBytes
-  ask-small zero = omega (arith, first-small k r)
-  ask-small (suc zero) = stored-small k r 1
-  ask-small (suc (suc zero)) = stored-small k r 2
-  ask-small (suc (suc (suc zero))) = stored-small k r 3
-  ask-small (suc (suc (suc (suc i)))) = omega arith
+  request-small zero = omega (arith, first-small k r)
+  request-small (suc zero) = stored-small k r 1
+  request-small (suc (suc zero)) = stored-small k r 2
+  request-small (suc (suc (suc zero))) = stored-small k r 3
+  request-small (suc (suc (suc (suc i)))) = omega arith
 
-  pub ask-back : Storable k r → settingsOf k (requestBytes k r) ≡ r
+  pub request-back : Storable k r → settingsOf k (requestBytes k r) ≡ r
   unfolding requestBytes
-  ask-back h =
+  request-back h =
       let e = settingsBytes k r in
       let x = getD e 0 0 in
       let g : heading (128 + x) ≡ true = and-both (head-selects x (first-small k r)) head-only-at in
@@ -66,9 +66,9 @@ module _ (k : Kind) (r : Settings) where
       ∙ ap (settingsOf k) (sym (as-four e (length-bytes k r)))
       ∙ settings-back k r h
 
-  pub ask-control : Storable k r → controlOf k (requestBytes k r) ≡ asking r
+  pub request-control : Storable k r → controlOf k (requestBytes k r) ≡ asking r
   unfolding controlOf
-  ask-control h = pick-yes (selected (requestBytes k r)) _ unselected ask-selected ∙ ap asking (ask-back h)
+  request-control h = pick-yes (selected (requestBytes k r)) _ unselected request-selected ∙ ap asking (request-back h)
 
 -- four zeros are not selected
 pub silent-control : (k : Kind) → controlOf k silent ≡ unselected

@@ -27,10 +27,10 @@ head-high : (a : ℕ) → a < 256 → heading a ≡ true → 128 + (a - 128) ≡
 head-high a h e = eqb-true (128 + (a - 128)) a (byByteIf heading (λ a. eqb (128 + (a - 128)) a) refl a h e)
 
 -- a selected element without a reserved bit is the one that asks for what it says
-pub ask-again : (k : Kind) (a b c d : ℕ) → a < 256 → d < 256 → selected (a ∷ b ∷ c ∷ d ∷ []) ≡ true → offending k (a ∷ b ∷ c ∷ d ∷ []) ≡ 4
+pub request-again : (k : Kind) (a b c d : ℕ) → a < 256 → d < 256 → selected (a ∷ b ∷ c ∷ d ∷ []) ≡ true → offending k (a ∷ b ∷ c ∷ d ∷ []) ≡ 4
     → requestBytes k (settingsOf k (a ∷ b ∷ c ∷ d ∷ [])) ≡ a ∷ b ∷ c ∷ d ∷ []
 unfolding requestBytes offending settingsBytes settingsOf
-ask-again k a b c d ha hd t e =
+request-again k a b c d ha hd t e =
     let l = layoutOf k in
     let u = reserved-unnamed k (a ∷ b ∷ c ∷ d ∷ []) ∙ sym (pick-yes _ _ _ t) ∙ e in
     let h = all-four (only (7 ∷ 6 ∷ 5 ∷ 4 ∷ []) a) (within (l .flags1) b) (within (l .flags2) c) (within (bitOr (l .flags3) (l .speed)) d) u in

@@ -108,9 +108,9 @@ module _ (l : Layout) (h : Sound l) where
       rw (coded f m p, coded f n q) (⊎-elim (λ e. inr (ap (λ x. bitAnd f (l .flags3) + x) e)) (λ (e : m < n). inl (omega arith)) (eq-or-lt-of-le le))
 
   -- requests for the same flags stand in the dictionary as RST SWAP and then the speed code
-  request-order : (w : Settings) (a b : Bool) (m n : ℕ) → (a ≡ true → b ≡ true) → m ≤ n → bitAnd m (l .speed) ≡ m → bitAnd n (l .speed) ≡ n
+  layout-order : (w : Settings) (a b : Bool) (m n : ℕ) → (a ≡ true → b ≡ true) → m ≤ n → bitAnd m (l .speed) ≡ m → bitAnd n (l .speed) ≡ n
       → InOrder (withSelect (stored l (requestFor w a m))) (withSelect (stored l (requestFor w b n)))
-  request-order w a b m n i le p q = four-order _ _ _ _ _ _ (head-order (w .prdfail) (w .disabled) a b i) (last-order (w .flags3) m n le p q)
+  layout-order w a b m n i le p q = four-order _ _ _ _ _ _ (head-order (w .prdfail) (w .disabled) a b i) (last-order (w .flags3) m n le p q)
 
   -- no speed that may be is 0 where another is not
   runs : (e w : List ℕ) → eqb (l .speed) 0 || not (eqb (bitAnd (getD w 3 0) (l .speed)) 0) ≡ true → said l w .speed ≡ 0 → said l e .speed ≡ 0
@@ -133,10 +133,10 @@ module _ (k : Kind) where
   unfolding settingsOf
   rest-same = select-same (layoutOf k) (sound k)
 
-  pub ask-order : (w : Settings) (a b : Bool) (m n : ℕ) → (a ≡ true → b ≡ true) → m ≤ n → bitAnd m (layoutOf k .speed) ≡ m → bitAnd n (layoutOf k .speed) ≡ n
+  pub request-order : (w : Settings) (a b : Bool) (m n : ℕ) → (a ≡ true → b ≡ true) → m ≤ n → bitAnd m (layoutOf k .speed) ≡ m → bitAnd n (layoutOf k .speed) ≡ n
       → InOrder (requestBytes k (requestFor w a m)) (requestBytes k (requestFor w b n))
   unfolding requestBytes settingsBytes
-  ask-order = request-order (layoutOf k) (sound k)
+  request-order = layout-order (layoutOf k) (sound k)
 
   pub no-stop : (e w : List ℕ) → settingsFormed k w ≡ true → settingsOf k w .speed ≡ 0 → settingsOf k e .speed ≡ 0
   unfolding settingsFormed settingsOf

@@ -5,7 +5,7 @@ use element::types::Kind;
 ghost use mathlib.Core.Path.{_≡_};
 ghost use Rattle.element.specs.Control.{controlOf};
 ghost use Rattle.build_element.specs.Wishes.{inReach, alike, requestBytes, requestFor, turning, own, brings, one};
-ghost use Rattle.build_element.specs.Parts.{tried, tries, sooner};
+ghost use Rattle.build_element.specs.Parts.{tried, tries};
 
 // Asks for nothing.
 pub const SILENT: [u8; 4] = [0, 0, 0, 0];
@@ -26,7 +26,7 @@ pub fn in_reach(kind: Kind, stored: [u8; 4], wanted: [u8; 4]) -> bool
 }
 
 // The selected element that asks for these settings.
-fn ask(kind: Kind, request: Settings) -> [u8; 4]
+fn request_bytes(kind: Kind, request: Settings) -> [u8; 4]
     ensures { λ r. ⌜ r ≡ requestBytes kind request ⌝ }
 {
     let e = request.bytes(kind);
@@ -62,7 +62,7 @@ fn own(kind: Kind, stored: [u8; 4], wanted: [u8; 4]) -> [u8; 4]
     let s = Settings::of(kind, stored);
     let w = Settings::of(kind, wanted);
     let code = turning(s.speed, w.speed);
-    ask(kind, request(w, s.swap & !w.swap, code))
+    request_bytes(kind, request(w, s.swap & !w.swap, code))
 }
 
 // Whether a control element brings stored settings to wanted ones.
@@ -95,9 +95,9 @@ pub fn tried(kind: Kind, wanted: [u8; 4], v: u8) -> [u8; 4]
     let w = Settings::of(kind, wanted);
     let reset = v % 2 == 1;
     if v < 2 {
-        ask(kind, request(w, reset, 0))
+        request_bytes(kind, request(w, reset, 0))
     } else {
-        ask(kind, request(w, reset, w.speed))
+        request_bytes(kind, request(w, reset, w.speed))
     }
 }
 
@@ -110,11 +110,4 @@ pub fn tries(kind: Kind, wanted: [u8; 4]) -> u8
     } else {
         4
     }
-}
-
-// Of two overall elements and the SELECTs that each needs: whether the first is the better one.
-pub fn sooner(m: u32, p: [u8; 4], n: u32, q: [u8; 4]) -> bool
-    ensures { λ r. ⌜ r ≡ sooner m p n q ⌝ }
-{
-    (m < n) | ((m == n) & (bits::big32_at(&p, 0) < bits::big32_at(&q, 0)))
 }

@@ -1,2 +1,3 @@
 pub mod Dictionary
 pub mod ByCount
+pub mod BestRow

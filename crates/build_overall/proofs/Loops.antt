@@ -13,16 +13,19 @@ use Rattle.bits.specs.Bits.{num}
 use Rattle.bits.proofs.Halves.{num-small}
 use Rattle.bits.proofs.Logic.{by-case, pick-yes, pick-no, fails, first-none, first-at, first-passes}
 use Rattle.element.specs.Control.{controlOf}
+use Rattle.build_order.specs.Order.{asNumber, sooner}
+use Rattle.build_order.specs.Search.{Search, cost, better, bestTried, bestOf, best}
+use Rattle.build_order.proofs.BestRow.{best-again, best-none}
 use Rattle.build_element.specs.Wishes.{silent, alike, brings}
-use Rattle.build_element.specs.Parts.{selects, cost, tried, tries, sooner, better, bestTried, bestOf, overallFor}
+use Rattle.build_element.specs.Parts.{selects, tried, tries}
 use Rattle.build_element.proofs.RequestBytes.{select-counts}
-use Rattle.build_element.proofs.FirstElement.{alike-same}
-use Rattle.build_element.proofs.BestPart.{cost-is, tries-do, best-again, best-none}
+use Rattle.build_element.proofs.FirstElement.{Row, alike-same}
+use Rattle.build_element.proofs.BestPart.{search-facts}
 use Rattle.shelf.specs.Elements.{settingsAt}
+use Rattle.shelf.specs.SettingsList.{settingsIn}
 use Rattle.page.specs.declared.slots.Slot.{Slot}
-use Rattle.control_page.specs.Brought.{settingsIn}
 use Rattle.build_overall.specs.declared.Candidate.{Candidate}
-use Rattle.build_overall.specs.Choice.{storedFrom, wantedFrom, costOf, ranked, triedOne, bestAfter, bestAmong, repeated, overallOf}
+use Rattle.build_overall.specs.Choice.{storedFrom, wantedFrom, searchAt, costOf, ranked, triedOne, bestAfter, bestAmong, repeated, overallOf}
 
 bool-num : (b : Bool) → boolByte b ≡ num b
 bool-num true = refl
@@ -58,19 +61,13 @@ module _ (w : List ℕ) (a j : ℕ) where
   all-unlike n z h = let g = first-none like n h in sym (rw (← z, g) (le-ltb n n (omega arith)))
 
 module _ (s w : List ℕ) (at : Slot) where
-  abbrev e : ℕ → List ℕ
-  e = storedFrom s (at .first)
-
-  abbrev x : ℕ → List ℕ
-  x = wantedFrom w (at .first)
-
-  abbrev m : ℕ
-  m = at .end - at .first
+  abbrev q : Search
+  q = searchAt s w at
 
   -- what is counted of the first n elements under the overall element o
   module _ (o : List ℕ) where
     abbrev does : ℕ → Bool
-    does i = brings (at .kind) (controlOf (at .kind) o) (e i) (x i)
+    does = q .serves o
 
     abbrev pub counted : ℕ → ℕ
     counted n = selects o + sumBelow (λ i. num (not (does i))) n
@@ -78,23 +75,23 @@ module _ (s w : List ℕ) (at : Slot) where
     pub counted-none : getD o 0 0 < 256 → (getD o 0 0 / 128 ≤ 1) × (getD o 0 0 / 128 ≡ counted (at .first - at .first))
     counted-none h = let z : at .first - at .first ≡ 0 = omega arith in (omega arith, rw z (omega (arith, select-counts o h)))
 
-    pub counted-next : {p q : List ℕ} {d : Bool} {n : ℕ} (j : ℕ) → at .first ≤ j → p ≡ settingsAt s j → q ≡ settingsIn w j → d ≡ brings (at .kind) (controlOf (at .kind) o) p q
+    pub counted-next : {p y : List ℕ} {d : Bool} {n : ℕ} (j : ℕ) → at .first ≤ j → p ≡ settingsAt s j → y ≡ settingsIn w j → d ≡ brings (at .kind) (controlOf (at .kind) o) p y
         → n ≡ counted (j - at .first) → n + boolByte (not d) ≡ counted (j + 1 - at .first)
-    counted-next {p} {q} {d} {n} j l hp hq hd hn =
+    counted-next {p} {y} {d} {n} j l hp hy hd hn =
         let i = j - at .first in
         let z : at .first + i ≡ j = omega arith in
-        let y : j + 1 - at .first ≡ suc i = omega arith in
-        let g : does i ≡ d = rw (z, hd, hp, hq) in
-        rw (y, g, bool-num (not d), hn) (omega arith)
+        let u : j + 1 - at .first ≡ suc i = omega arith in
+        let g : does i ≡ d = rw (z, hd, hp, hy) in
+        rw (u, g, bool-num (not d), hn) (omega arith)
 
-    pub counted-all : {n : ℕ} (i : ℕ) → i ≡ m → n ≡ counted i → n ≡ costOf s w at o
-    unfolding costOf
-    counted-all i z g = rw (g, z) (sym (cost-is (at .kind) e x m o))
+    pub counted-all : {n : ℕ} (i : ℕ) → i ≡ q .many → n ≡ counted i → n ≡ costOf s w at o
+    unfolding costOf cost
+    counted-all i z g = g ∙ ap counted z
 
   -- the better of the best so far and o
-  module _ (b : Candidate) (o : List ℕ) {n : ℕ} {d : Bool} (h : n ≡ costOf s w at o) (g : d ≡ sooner n o (b .selects) (b .overall)) where
-    told : {t : Bool} → d ≡ t → sooner (costOf s w at o) o (b .selects) (b .overall) ≡ t
-    told q = rw (← h) (sym g ∙ q)
+  module _ (b : Candidate) (o : List ℕ) {n : ℕ} {d : Bool} (h : n ≡ costOf s w at o) (g : d ≡ sooner n (asNumber o) (b .selects) (asNumber (b .overall))) where
+    told : {t : Bool} → d ≡ t → sooner (costOf s w at o) (asNumber o) (b .selects) (asNumber (b .overall)) ≡ t
+    told e = rw (← h) (sym g ∙ e)
 
     pub one-better : d ≡ true → record { overall = o; selects = n } ≡ triedOne s w at b o
     unfolding triedOne
@@ -104,22 +101,21 @@ module _ (s w : List ℕ) (at : Slot) where
     unfolding triedOne
     none-better t = sym (pick-no _ _ _ (told t))
 
-  ranked-better : (a o : List ℕ) → triedOne s w at (ranked s w at a) o ≡ ranked s w at (better (at .kind) e x m a o)
+  ranked-better : (a o : List ℕ) → triedOne s w at (ranked s w at a) o ≡ ranked s w at (better q a o)
   unfolding triedOne better costOf
-  ranked-better a o =
-      by-case (sooner (cost (at .kind) e x m o) o (cost (at .kind) e x m a) a) (λ t. rw t) (λ t. rw t)
+  ranked-better a o = by-case (sooner (cost q o) (asNumber o) (cost q a) (asNumber a)) (λ t. rw t) (λ t. rw t)
 
   -- over what is tried for one record
   module _ (y a : List ℕ) where
     abbrev pub upto : ℕ → Candidate
-    upto v = ranked s w at (bestTried (at .kind) e x m y a v)
+    upto v = ranked s w at (bestTried q y a v)
 
     pub upto-next : {b r : Candidate} {z : List ℕ} (v : ℕ) → b ≡ upto v → z ≡ tried (at .kind) y v → r ≡ triedOne s w at b z → r ≡ upto (v + 1)
-    upto-next v h g q = rw (add-one v) (rw (h, g) at q ∙ ranked-better (bestTried (at .kind) e x m y a v) (tried (at .kind) y v))
+    upto-next v h g e = rw (add-one v) (rw (h, g) at e ∙ ranked-better (bestTried q y a v) (tried (at .kind) y v))
 
     pub upto-all : {b : Candidate} {n : ℕ} (v : ℕ) → n ≡ tries (at .kind) y → v ≡ n → b ≡ upto v → b ≡ ranked s w at (bestAfter s w at y a)
     unfolding bestAfter
-    upto-all v h g q = q ∙ ap upto (g ∙ h) ∙ ap (ranked s w at) (tries-do (at .kind) e x m y a)
+    upto-all v h g e = e ∙ ap upto (g ∙ h)
 
   -- over the records
   pub best-ranked : {b : Candidate} (i : ℕ) → b ≡ bestAmong s w at i → b ≡ ranked s w at (b .overall)
@@ -130,8 +126,8 @@ module _ (s w : List ℕ) (at : Slot) where
     abbrev n : ℕ
     n = j - at .first
 
-    at-j : at .first + n ≡ j
-    at-j = omega arith
+    wanted-is : q .wanted n ≡ settingsIn w j
+    wanted-is = let z : at .first + n ≡ j = omega arith in ap (settingsIn w) z
 
     pub record-again : {b : Candidate} {d : Bool} → b ≡ bestAmong s w at n → d ≡ repeated w (at .first) j → d ≡ true → b ≡ bestAmong s w at (suc n)
     unfolding bestAmong repeated
@@ -139,16 +135,16 @@ module _ (s w : List ℕ) (at : Slot) where
         let f = like w (at .first) j in
         let i = firstBelow f n in
         let u = ltb-true i n (sym g ∙ t) in
-        let q : x i ≡ x n = alike-same (x i) (settingsIn w j) refl refl (first-passes f n u) ∙ ap (settingsIn w) (sym at-j) in
-        h ∙ ap (ranked s w at) (sym (best-again (at .kind) e x m n i u q))
+        let e : q .wanted i ≡ q .wanted n = alike-same (q .wanted i) (settingsIn w j) refl refl (first-passes f n u) ∙ sym wanted-is in
+        h ∙ ap (ranked s w at) (sym (best-again q n i u e))
 
     pub record-new : {b r : Candidate} {y : List ℕ} → b ≡ bestAmong s w at n → y ≡ settingsIn w j → r ≡ ranked s w at (bestAfter s w at y (b .overall)) → r ≡ bestAmong s w at (suc n)
     unfolding bestAmong bestAfter
-    record-new h g q = q ∙ rw (h, g) (ap (λ (y : List ℕ). ranked s w at (bestTried (at .kind) e x m y (bestOf (at .kind) e x m n) 4)) (ap (settingsIn w) (sym at-j)))
+    record-new h g e = e ∙ rw h (ap (λ (y : List ℕ). ranked s w at (bestTried q y (bestOf q n) (tries (at .kind) y))) (g ∙ sym wanted-is))
 
   pub none-chosen : {n : ℕ} → n ≡ costOf s w at silent → n ≤ 1 → silent ≡ overallOf s w at
-  unfolding overallOf overallFor costOf
-  none-chosen h l = sym (best-none (at .kind) e x m (rw (← h) l) m)
+  unfolding overallOf costOf best
+  none-chosen h l = sym (best-none q (Row (at .kind)) (search-facts (at .kind) (storedFrom s (at .first)) (wantedFrom w (at .first)) (q .many)) (rw (← h) l) (q .many))
 
   pub first-best : {n : ℕ} → n ≡ costOf s w at silent → record { overall = silent; selects = n } ≡ bestAmong s w at (at .first - at .first)
   unfolding bestAmong
@@ -157,6 +153,6 @@ module _ (s w : List ℕ) (at : Slot) where
   pub next-best : {b : Candidate} (j : ℕ) → at .first ≤ j → b ≡ bestAmong s w at (suc (j - at .first)) → b ≡ bestAmong s w at (j + 1 - at .first)
   next-best j l h = let z : j + 1 - at .first ≡ suc (j - at .first) = omega arith in rw z h
 
-  pub all-best : {b : Candidate} (i : ℕ) → i ≡ m → b ≡ bestAmong s w at i → b .overall ≡ overallOf s w at
-  unfolding bestAmong overallOf overallFor
-  all-best i z h = ap (λ (b : Candidate). b .overall) h ∙ ap (bestOf (at .kind) e x m) z
+  pub all-best : {b : Candidate} (i : ℕ) → i ≡ q .many → b ≡ bestAmong s w at i → b .overall ≡ overallOf s w at
+  unfolding bestAmong overallOf best
+  all-best i z h = ap (λ (b : Candidate). b .overall) h ∙ ap (bestOf q) z

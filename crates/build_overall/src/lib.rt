@@ -3,23 +3,16 @@
 // Only what the wanted records ask for is tried, and the overall element unselected.
 use page::slots::Slot;
 use shelf::elements;
+use shelf::settings_list;
 ghost use mathlib.Core.Path.{_≡_};
 ghost use Prim.Native.Nat.{suc, _-_, _<_, _≤_};
-ghost use Rattle.control_page.specs.Brought.{settingsIn};
-ghost use Rattle.build_overall.specs.Choice.{HasWish, HasWishes, costOf, ranked, triedOne, bestAfter, bestAmong, repeated, overallOf};
+ghost use Rattle.shelf.specs.SettingsList.{HasSettings};
+ghost use Rattle.build_overall.specs.Choice.{HasWishes, costOf, ranked, triedOne, bestAfter, bestAmong, repeated, overallOf};
 
 // An overall element that is tried, and the SELECTs that its type needs with it.
 pub struct Candidate {
     pub overall: [u8; 4],
     pub selects: u32,
-}
-
-// What is wanted of element j.
-pub fn wanted_at(wanted: &[u8], j: u16) -> [u8; 4]
-    requires { ⌜ HasWish (now wanted) j ⌝ }
-    ensures { λ r. ⌜ r ≡ settingsIn (now (wanted .entry)) j ⌝ }
-{
-    bits::four_at(wanted, 4 * j as u32)
 }
 
 // The SELECTs that the elements from `first` up to `end` need with this overall element, its own counted.
@@ -35,7 +28,7 @@ fn cost(shelf: &[u8], wanted: &[u8], at: Slot, overall: [u8; 4]) -> u32
             kind,
             overall,
             elements::settings_at(shelf, j),
-            wanted_at(wanted, j),
+            settings_list::settings_in(wanted, j),
         );
         n += !done as u32;
         j += 1;
@@ -49,7 +42,7 @@ fn try_one(shelf: &[u8], wanted: &[u8], at: Slot, best: Candidate, overall: [u8;
 {
     let selects = cost(shelf, wanted, at, overall);
     let so_far = best.overall;
-    if build_element::sooner(selects, overall, best.selects, so_far) {
+    if build_order::sooner(selects, overall, best.selects, so_far) {
         Candidate { overall, selects }
     } else {
         best
@@ -75,13 +68,13 @@ fn try_record(shelf: &[u8], wanted: &[u8], at: Slot, best: Candidate, x: [u8; 4]
 
 // Whether what is wanted of element j is wanted of one before it, from `first` on.
 fn is_repeated(wanted: &[u8], first: u16, j: u16) -> bool
-    requires { ⌜ HasWish (now wanted) j ⌝ }
+    requires { ⌜ HasSettings (now wanted) j ⌝ }
     ensures { λ r. ⌜ r ≡ repeated (now (wanted .entry)) first j ⌝ }
 {
-    let x = wanted_at(wanted, j);
+    let x = settings_list::settings_in(wanted, j);
     let mut i = first;
     while i < j {
-        if build_element::alike(wanted_at(wanted, i), x) {
+        if build_element::alike(settings_list::settings_in(wanted, i), x) {
             return true;
         }
         i += 1;
@@ -99,7 +92,13 @@ fn consider(shelf: &[u8], wanted: &[u8], at: Slot, best: Candidate, j: u16) -> C
     if is_repeated(wanted, at.first, j) {
         best
     } else {
-        try_record(shelf, wanted, at, best, wanted_at(wanted, j))
+        try_record(
+            shelf,
+            wanted,
+            at,
+            best,
+            settings_list::settings_in(wanted, j),
+        )
     }
 }
 

@@ -15,16 +15,19 @@ use Rattle.bits.specs.Rows.{joined}
 use Rattle.bits.proofs.Logic.{first-small}
 use Rattle.bits.proofs.Rows.{joined-four, joined-same, length-joined}
 use Rattle.build_order.specs.Order.{NotAfter}
+use Rattle.build_order.specs.Search.{cost, best}
+use Rattle.build_order.proofs.BestRow.{best-row}
 use Rattle.build_order.proofs.ByCount.{after-refl, after-append, joined-split, sum-same, sum-split}
 use Rattle.element.specs.declared.types.Kind.{Kind}
 use Rattle.element.specs.Control.{selected, offending, controlOf, chosen, settled}
 use Rattle.element.proofs.StoredSettings.{reserved-unnamed}
 use Rattle.build_element.specs.Wishes.{one}
-use Rattle.build_element.specs.Parts.{selects, under, cost, part, bestOf, overallFor}
+use Rattle.build_element.specs.Parts.{selects, under, part}
 use Rattle.build_element.proofs.FirstElement.{Row, one-row}
-use Rattle.build_element.proofs.BestPart.{best-row, part-first}
+use Rattle.build_element.proofs.BestPart.{search-facts, part-selects, part-first}
 use Rattle.shelf.specs.Types.{typesOf, typeCount, before, elementsOf}
 use Rattle.shelf.specs.Elements.{settingsAt}
+use Rattle.shelf.specs.SettingsList.{settingsIn}
 use Rattle.shelf_formed.specs.Formed.{frontFormed}
 use Rattle.shelf_formed.proofs.ElementTypes.{front-formed}
 use Rattle.page.specs.Slots.{slotsOf, startOf, slotType, slotAt, slotPlace}
@@ -33,10 +36,10 @@ use Rattle.page.proofs.SlotsBefore.{start-none, start-next}
 use Rattle.page.proofs.ElementSlots.{start-up}
 use Rattle.page.proofs.HeaderBothWays.{byte-small}
 use Rattle.control_page.specs.Tests.{slotOffending, valid}
-use Rattle.control_page.specs.Brought.{settingsAfter, broughtTo, settingsIn}
+use Rattle.control_page.specs.Brought.{settingsAfter, broughtTo}
 use Rattle.control_page.proofs.ValidPage.{valid-formed, valid-slot}
 use Rattle.control_page.proofs.PageActs.{after-length}
-use Rattle.build_page.specs.Page.{typeKind, storedIn, wantedIn, overallIn, rowUnder, rowFor}
+use Rattle.build_page.specs.Page.{typeKind, storedIn, wantedIn, searchIn, overallIn, rowUnder, rowFor}
 use Rattle.build_page.proofs.SlotsByType.{slots-end, overall-row, overall-kind, element-kind, element-row, element-here, own-slot, overall-slot, element-kind-at}
 
 sum-one : (f : ℕ → ℕ) → sumBelow f 1 ≡ f 0
@@ -59,14 +62,14 @@ four-small q h m (suc (suc (suc (suc i)))) = omega arith
 
 -- each slot of the page is a control element of its type
 pub rowFor-row : (s w : List ℕ) (i : ℕ) → Row (slotAt s i .kind) (rowFor s w i)
-unfolding rowFor rowUnder overallIn overallFor slotAt
+unfolding rowFor rowUnder overallIn best slotAt
 rowFor-row s w i =
     let t = slotType s i in
     let at = slotAt s i in
     let k = typeKind s t in
-    let o = bestOf k (storedIn s t) (wantedIn s w t) (typeCount s t) (typeCount s t) in
+    let o = overallIn s w t in
     go (at .overall) o (one k (controlOf k o) (settingsAt s (at .first)) (settingsIn w (at .first)))
-    (best-row k (storedIn s t) (wantedIn s w t) (typeCount s t) (typeCount s t))
+    (best-row (searchIn s w t) (Row k) (search-facts k (storedIn s t) (wantedIn s w t) (typeCount s t)) (typeCount s t))
     (one-row k (settingsAt s (at .first)) (settingsIn w (at .first)) (controlOf k o))
   where
     go : (b : Bool) (x y : List ℕ) → Row (typeKind s (slotType s i)) x → Row (typeKind s (slotType s i)) y → Row (typeKind s (slotType s i)) (pick b x y)
@@ -120,7 +123,7 @@ module _ (s w q : List ℕ) (hq : Bytes q) (v : valid s q ≡ true) (b : brought
     element-acts i h =
         rw (element-kind-at s f t l i h, own-slot s f t l i h, overall-slot s f t l i h) at (brought s w q b (before s t + i) (element-here s f t l i h))
 
-    ours-part : NotAfter (cost k (storedIn s t) (wantedIn s w t) m (overallIn s w t)) (part k (storedIn s t) (wantedIn s w t) m (overallIn s w t))
+    ours-part : NotAfter (cost (searchIn s w t) (overallIn s w t)) (part k (storedIn s t) (wantedIn s w t) m (overallIn s w t))
         (selects (theirs a) + sumBelow (λ i. selects (theirs (a + (1 + i)))) m) (theirs a ++ joined (λ i. theirs (a + (1 + i))) m)
     unfolding overallIn
     ours-part =
@@ -137,12 +140,12 @@ module _ (s w q : List ℕ) (hq : Bytes q) (v : valid s q ≡ true) (b : brought
         ∙ ap₂ _++_ (ap ours (add-zero a) ∙ overall-row s f t l w)
         (joined-same (λ i. ours (a + (1 + i))) (under k (storedIn s t) (wantedIn s w t) (overallIn s w t)) m (λ i h. element-row s f t l i h w))
 
-    count-ours : sumBelow (λ i. selects (ours (a + i))) (1 + m) ≡ cost k (storedIn s t) (wantedIn s w t) m (overallIn s w t)
-    unfolding cost
+    count-ours : sumBelow (λ i. selects (ours (a + i))) (1 + m) ≡ cost (searchIn s w t) (overallIn s w t)
     count-ours =
         sum-split (λ i. selects (ours (a + i))) 1 m
         ∙ ap₂ _+_ (sum-one (λ i. selects (ours (a + i))) ∙ ap (λ (x : ℕ). selects (ours x)) (add-zero a) ∙ ap selects (overall-row s f t l w))
         (sum-same (λ i. selects (ours (a + (1 + i)))) (λ i. selects (under k (storedIn s t) (wantedIn s w t) (overallIn s w t) i)) m (λ i h. ap selects (element-row s f t l i h w)))
+        ∙ sym (part-selects k (storedIn s t) (wantedIn s w t) m (overallIn s w t))
 
     slots-theirs : joined (λ i. theirs (a + i)) (1 + m) ≡ theirs a ++ joined (λ i. theirs (a + (1 + i))) m
     slots-theirs = joined-split (λ i. theirs (a + i)) 1 m ∙ ap (λ (x : ℕ). theirs x ++ joined (λ i. theirs (a + (1 + i))) m) (add-zero a)

@@ -16,36 +16,39 @@ use Rattle.bits.proofs.Widths.{bytes-big}
 use Rattle.bits.proofs.Rows.{as-four}
 use Rattle.bits.specs.Choice.{pick, allBelow}
 use Rattle.bits.proofs.Logic.{by-case, pick-yes, pick-no, below-all, below-fails, below-next, fails, first-none}
-use Rattle.element.specs.declared.types.Kind.{Kind}
 use Rattle.element.specs.Settings.{settingsFormed}
 use Rattle.element.specs.Control.{controlOf}
 use Rattle.build_element.specs.Wishes.{silent, inReach, one}
 use Rattle.build_element.specs.Parts.{selects}
 use Rattle.build_element.proofs.RequestBytes.{select-counts}
 use Rattle.shelf.specs.Limits.{mostTypes}
-use Rattle.shelf.specs.Types.{typeCount, before, elementsOf, kindAt}
+use Rattle.shelf.specs.declared.types.Run.{Run}
+use Rattle.shelf.specs.Types.{typeCount, before, elementsOf, runAt}
+use Rattle.shelf.proofs.TypeRuns.{run-kind}
 use Rattle.shelf_formed.specs.Formed.{wellFormed}
 use Rattle.shelf_formed.proofs.ElementTypes.{front-formed}
 use Rattle.shelf.specs.Elements.{settingsAt}
+use Rattle.shelf.specs.SettingsList.{settingsIn}
 use Rattle.page.specs.declared.slots.Slot.{Slot}
-use Rattle.page.specs.Slots.{slotsOf, startOf, inType, slotType, isOverall, slotAt}
+use Rattle.page.specs.declared.slots.SlotRun.{SlotRun}
+use Rattle.page.specs.Slots.{slotsOf, startOf, inType, slotType, isOverall, slotAt, slotRun, slotIn}
 use Rattle.page.proofs.SlotsOfFront.{end-there}
+use Rattle.page.proofs.SlotWalk.{slot-walked}
 use Rattle.page.proofs.ElementSlots.{start-up, slotted, slot-has}
 use Rattle.page.proofs.SlotTypes.{start-below, type-ends}
-use Rattle.control_page.specs.Brought.{settingsIn}
 use Rattle.build_overall.specs.Choice.{HasWishes, overallOf}
 use Rattle.build_page.specs.Promise.{mayBe}
 use Rattle.build_page.specs.Page.{overallIn, rowUnder, rowFor, selectsFor, reachable}
 use Rattle.build_page.proofs.FirstSlots.{rowFor-row}
 
 -- the tests of a wish, record by record
-pub formed-at : (s w : List ℕ) (j : ℕ) {k : Kind} {x : List ℕ} {d : Bool} → k ≡ kindAt s j → x ≡ settingsIn w j → d ≡ settingsFormed k x → mayBe s w j ≡ d
-formed-at s w j p q h = rw (h, p, q)
+module _ (s w : List ℕ) (j : ℕ) {r : Run} (q : r ≡ runAt s j) where
+  pub formed-at : {x : List ℕ} {d : Bool} → x ≡ settingsIn w j → d ≡ settingsFormed (r .kind) x → mayBe s w j ≡ d
+  formed-at p h = rw (h, run-kind s j q, p)
 
-pub reach-at : (s w : List ℕ) (j : ℕ) {k : Kind} {e x : List ℕ} {d : Bool} → k ≡ kindAt s j → e ≡ settingsAt s j → x ≡ settingsIn w j → d ≡ inReach k e x
-    → reachable s w j ≡ d
-unfolding reachable
-reach-at s w j p u q h = rw (h, p, u, q)
+  pub reach-at : {e x : List ℕ} {d : Bool} → e ≡ settingsAt s j → x ≡ settingsIn w j → d ≡ inReach (r .kind) e x → reachable s w j ≡ d
+  unfolding reachable
+  reach-at u p h = rw (h, run-kind s j q, u, p)
 
 module _ (f : ℕ → Bool) (n j : ℕ) where
   pub fails-at : {d : Bool} → f j ≡ d → j < n → d ≡ false → false ≡ allBelow f n
@@ -147,22 +150,25 @@ module _ (s : List ℕ) where
         by-case (isOverall s (suc i)) (λ t. pick-yes _ _ _ t ∙ overall-here (suc i) t)
         (λ t. pick-no _ _ _ t ∙ h ∙ ap (overallIn s w) (same-type i t))
 
-    -- what a turn puts
-    pub row-next : (i : ℕ) {at : Slot} {o p y : List ℕ} → at ≡ slotAt s i → o ≡ standing i → p ≡ pick (at .overall) (overallOf s w at) o → y ≡ rowUnder s w at p
-        → (p ≡ standing (i + 1)) × (y ≡ rowFor s w i)
-    unfolding rowFor
-    row-next i {p = p} ha ho hp hy =
-        let q : p ≡ standing (suc i) = hp ∙ rw (ha, ho) in
-        (rw (add-one i) q, hy ∙ rw ha (ap (rowUnder s w (slotAt s i)) (q ∙ stands i)))
-
-    -- and counts
-    pub row-counts : (i : ℕ) {y : List ℕ} → y ≡ rowFor s w i → (getD y 0 0 / 128 ≡ selects (rowFor s w i)) × (getD y 0 0 / 128 ≤ 1)
+    -- what a turn counts
+    row-counts : (i : ℕ) {y : List ℕ} → y ≡ rowFor s w i → (getD y 0 0 / 128 ≡ selects (rowFor s w i)) × (getD y 0 0 / 128 ≤ 1)
     row-counts i {y} h =
         let l = rowFor-row s w i .1 0 in
         rw h (select-counts (rowFor s w i) l, omega arith)
 
     pub count-next : (i : ℕ) {n : ℕ} {y : List ℕ} → n ≡ selectsFor s w i → y ≡ rowFor s w i → n + getD y 0 0 / 128 ≡ selectsFor s w (i + 1)
     count-next i h g = rw (add-one i) (omega (arith, h, row-counts i g .0))
+
+    -- and puts
+    pub row-next : (i : ℕ) {r : SlotRun} {at : Slot} {o p y : List ℕ} → r ≡ slotRun s i → at ≡ slotIn r i → o ≡ standing i
+        → p ≡ pick (at .overall) (overallOf s w at) o → y ≡ rowUnder s w at p
+        → (p ≡ standing (i + 1)) × (y ≡ rowFor s w i) × (getD y 0 0 / 128 ≤ 1)
+    unfolding rowFor
+    row-next i {p = p} {y = y} hr hi ho hp hy =
+        let ha = slot-walked s i hr hi in
+        let q : p ≡ standing (suc i) = hp ∙ rw (ha, ho) in
+        let e : y ≡ rowFor s w i = hy ∙ rw ha (ap (rowUnder s w (slotAt s i)) (q ∙ stands i)) in
+        (rw (add-one i) q, e, row-counts i e .1)
 
 -- what is read for a slot: the elements that it is for, stored and wanted
 pub slot-wishes : (s w : List ℕ) → wellFormed s ≡ true → 4 * elementsOf s ≤ length w → (i : ℕ) → i < slotsOf s → {at : Slot} → at ≡ slotAt s i

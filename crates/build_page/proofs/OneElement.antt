@@ -12,14 +12,16 @@ use Rattle.bits.specs.Numbers.{Bytes}
 use Rattle.bits.specs.Places.{fourAt}
 use Rattle.bits.proofs.Halves.{num-small}
 use Rattle.bits.proofs.Logic.{by-case, pick-yes, pick-no}
+use Rattle.build_order.specs.Search.{cost, best}
+use Rattle.build_order.proofs.BestRow.{best-none}
 use Rattle.element.specs.declared.types.Kind.{Kind}
 use Rattle.element.specs.Control.{controlOf}
 use Rattle.build_element.specs.Wishes.{silent, brings}
-use Rattle.build_element.specs.Parts.{cost, overallFor}
-use Rattle.build_element.proofs.FirstElement.{brings-same, one-same}
-use Rattle.build_element.proofs.BestPart.{cost-is, best-none}
+use Rattle.build_element.proofs.FirstElement.{Row, brings-same, one-same}
+use Rattle.build_element.proofs.BestPart.{search-facts}
 use Rattle.shelf.specs.Types.{typesOf, typeCount, before, elementsOf}
 use Rattle.shelf.specs.Elements.{settingsAt}
+use Rattle.shelf.specs.SettingsList.{settingsIn}
 use Rattle.shelf_formed.specs.Formed.{frontFormed}
 use Rattle.shelf_formed.proofs.ElementTypes.{front-formed}
 use Rattle.page.specs.Slots.{slotsOf, startOf, slotType, slotAt, slotPlace}
@@ -27,10 +29,9 @@ use Rattle.page.specs.Places.{ownSlot}
 use Rattle.page.proofs.ElementSlots.{start-up}
 use Rattle.page.proofs.SlotTypes.{start-below, types-below}
 use Rattle.page.proofs.SlotsOfFront.{after-start, first-is, first-typed, first-there}
-use Rattle.control_page.specs.Brought.{settingsIn}
 use Rattle.control_page.proofs.ValidPage.{valid-formed}
 use Rattle.build_page.specs.Promise.{Best}
-use Rattle.build_page.specs.Page.{typeKind, storedIn, wantedIn, overallIn, rowUnder, rowFor}
+use Rattle.build_page.specs.Page.{typeKind, storedIn, wantedIn, searchIn, overallIn, rowUnder, rowFor}
 use Rattle.build_page.proofs.SlotsByType.{slots-end, element-here}
 use Rattle.build_page.proofs.FirstPage.{made-row}
 use Rattle.build_page.proofs.PromiseLaws.{best-is-made}
@@ -58,14 +59,13 @@ module _ (s w : List ℕ) (f : frontFormed s ≡ true) (j : ℕ) (same : (i : �
     left : (i : ℕ) → i < typeCount s t → (before s t + i ≡ j → ⊥) → not (brings k (controlOf k silent) (storedIn s t i) (wantedIn s w t i)) ≡ false
     left i m h = ap not (brings-same k (storedIn s t i) (wantedIn s w t i) (same (before s t + i) (element-here s f t l i m) h))
 
-    few : cost k (storedIn s t) (wantedIn s w t) (typeCount s t) silent ≤ 1
-    few =
-        let c = cost-is k (storedIn s t) (wantedIn s w t) (typeCount s t) silent in
-        omega (arith, c, at-most-one (λ i. not (brings k (controlOf k silent) (storedIn s t i) (wantedIn s w t i))) j (before s t) (typeCount s t) left)
+    few : cost (searchIn s w t) silent ≤ 1
+    unfolding cost
+    few = omega (arith, at-most-one (λ i. not (brings k (controlOf k silent) (storedIn s t i) (wantedIn s w t i))) j (before s t) (typeCount s t) left)
 
     none-overall : overallIn s w t ≡ silent
-    unfolding overallIn overallFor
-    none-overall = best-none k (storedIn s t) (wantedIn s w t) (typeCount s t) few (typeCount s t)
+    unfolding overallIn best
+    none-overall = best-none (searchIn s w t) (Row k) (search-facts k (storedIn s t) (wantedIn s w t) (typeCount s t)) few (typeCount s t)
 
   module _ (i : ℕ) (h : i < slotsOf s) where
     type-there : slotType s i < typesOf s

@@ -4,13 +4,12 @@ use mathlib.Core.Bool.{true, false}
 use mathlib.Core.List.{List}
 use Prim.Native.Nat.{ℕ, _+_, _*_, _-_, _<_}
 use native.Mathlib.Omega.{arith}
-use lib.ListN.{length, take}
-use lib.Seq.{take-length}
+use lib.ListN.{length}
 use borrow.Author.Tests.{le-ltb}
 use Rattle.bits.specs.Numbers.{Bytes}
 use Rattle.bits.specs.Places.{fourAt}
 use Rattle.bits.proofs.Logic.{never}
-use Rattle.bits.proofs.Rows.{joined-same, fours}
+use Rattle.bits.proofs.Rows.{joined-same}
 use Rattle.element.specs.Settings.{settingsOf, settingsFormed}
 use Rattle.element.specs.Control.{controlOf, offending}
 use Rattle.element.proofs.Acting.{swap-kept}
@@ -19,7 +18,9 @@ use Rattle.build_element.specs.Wishes.{one}
 use Rattle.build_element.proofs.FirstElement.{one-reaches}
 use Rattle.shelf.specs.Types.{typesOf, typeCount, before, elementsOf, typeOf, kindAt}
 use Rattle.shelf.specs.Elements.{settingsAt}
+use Rattle.shelf.specs.SettingsList.{settingsIn}
 use Rattle.shelf.proofs.ElementsBefore.{before-next}
+use Rattle.shelf.proofs.SettingsList.{settings-length, list-joined}
 use Rattle.shelf_formed.specs.Formed.{frontFormed, wellFormed}
 use Rattle.shelf_formed.proofs.ElementTypes.{type-start, type-end, type-named, front-formed}
 use Rattle.page.specs.Slots.{slotsOf, slotAt, slotPlace}
@@ -29,16 +30,12 @@ use Rattle.page.proofs.SlotBounds.{slots-bound}
 use Rattle.page.proofs.ElementSlots.{own-there, overall-there}
 use Rattle.page.proofs.HeaderBothWays.{head-written}
 use Rattle.control_page.specs.Tests.{slotOffending, valid}
-use Rattle.control_page.specs.Brought.{settingsAfter, broughtTo, settingsIn}
+use Rattle.control_page.specs.Brought.{settingsAfter, broughtTo}
 use Rattle.control_page.proofs.ValidPage.{firstFine, parts-valid}
 use Rattle.build_page.specs.Page.{typeKind, storedIn, wantedIn, overallIn, rowFor, controlPage}
 use Rattle.build_page.proofs.SlotsByType.{overall-row, element-row, own-slot, overall-slot, element-kind-at}
 use Rattle.build_page.proofs.FirstSlots.{four-small, rowFor-row, rowFor-length, brought}
 use Rattle.build_page.proofs.FirstPage.{made-row}
-
-stored-length : (s : List ℕ) (j : ℕ) → length (settingsAt s j) ≡ 4
-unfolding settingsAt
-stored-length s j = refl
 
 module _ (s w : List ℕ) (f : wellFormed s ≡ true) where
   ff : frontFormed s ≡ true
@@ -81,7 +78,7 @@ module _ (s w : List ℕ) (f : wellFormed s ≡ true) where
           let all : fourAt (controlPage s w) (slotPlace (overallSlot s j)) ≡ o =
           made-row s w (overallSlot s j) (overall-there s j there ff) ∙ ap (rowFor s w) (overall-slot s ff t l i m) ∙ overall-row s ff t l w in
           rw (own, all, element-kind-at s ff t l i m)
-          (one-reaches k (storedIn s t i) (wantedIn s w t i) (controlOf k o) (refl, four-small w hw (4 * j), g, z) (stored-length s j))
+          (one-reaches k (storedIn s t i) (wantedIn s w t i) (controlOf k o) (refl, four-small w hw (4 * j), g, z) (settings-length s j))
 
     module _ (can : (j : ℕ) → j < elementsOf s → Can j) where
       reached-at : (j : ℕ) → j < elementsOf s → settingsAfter s (controlPage s w) j ≡ settingsIn w j
@@ -98,10 +95,7 @@ module _ (s w : List ℕ) (f : wellFormed s ≡ true) where
       unfolding broughtTo
       made-brings e =
           joined-same (settingsAfter s (controlPage s w)) (settingsIn w) (elementsOf s) reached-at
-          ∙ joined-same (settingsIn w) (λ i. fourAt w (0 + 4 * i)) (elementsOf s) (λ i l. ap (fourAt w) (let z : 4 * i ≡ 0 + 4 * i = omega arith in z))
-          ∙ sym (fours w 0 (elementsOf s) (omega arith))
-          ∙ ap (λ (x : ℕ). take x w) (let z : 0 + 4 * elementsOf s ≡ length w = omega arith in z)
-          ∙ take-length w
+          ∙ list-joined w (elementsOf s) e
 
 -- no control element sets a SWAP, so a wish for one that is not stored is reached by no page
 pub out-of-reach : (s w : List ℕ) (j : ℕ) → j < elementsOf s → settingsOf (kindAt s j) (settingsIn w j) .swap ≡ true → settingsOf (kindAt s j) (settingsAt s j) .swap ≡ false

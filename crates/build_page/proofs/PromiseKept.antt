@@ -21,10 +21,10 @@ use Rattle.refusals.specs.Outcomes.{unless}
 use Rattle.refusals.proofs.AcceptedTests.{held, held-both}
 use Rattle.shelf.specs.Types.{elementsOf, kindAt}
 use Rattle.shelf.specs.Elements.{settingsAt}
+use Rattle.shelf.specs.SettingsList.{settingsIn}
 use Rattle.shelf_formed.specs.Formed.{wellFormed}
 use Rattle.page.specs.Slots.{slotsOf}
 use Rattle.page.specs.Header.{shelfTested}
-use Rattle.control_page.specs.Brought.{settingsIn}
 use Rattle.build_page.specs.declared.built.Built.{Built}
 use Rattle.build_page.specs.declared.built.Built.the-variants.{Refused}
 use Rattle.build_page.specs.Outcome.{passedOn, builtOf, leftBy}

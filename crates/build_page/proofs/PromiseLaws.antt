@@ -23,11 +23,12 @@ use Rattle.refusals.specs.declared.Answer.the-variants as answer
 use Rattle.shelf.specs.Limits.{elementPlace}
 use Rattle.shelf.specs.Types.{elementsOf, kindAt}
 use Rattle.shelf.specs.Elements.{settingsAt}
+use Rattle.shelf.specs.SettingsList.{storedSettings, settingsIn}
 use Rattle.shelf_formed.specs.Formed.{wellFormed}
 use Rattle.shelf_formed.proofs.FormedShelf.{in-element}
 use Rattle.page.specs.Slots.{slotPlace}
 use Rattle.page.specs.Places.{ownSlot, overallSlot, placesOf}
-use Rattle.control_page.specs.Brought.{settingsAfter, broughtTo, storedSettings, settingsIn}
+use Rattle.control_page.specs.Brought.{settingsAfter, broughtTo}
 use Rattle.control_page.proofs.ValidPage.{valid-formed}
 use Rattle.control_page.proofs.PageActs.{after-length}
 use Rattle.control_page.proofs.Changes.{after, reached, settled-kept}

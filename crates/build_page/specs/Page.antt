@@ -1,20 +1,21 @@
 -- The control page for a wish: how it is made. Assumes nothing.
 use mathlib.Core.Bool.{Bool}
 use mathlib.Core.List.{List, _++_}
-use Prim.Native.Nat.{ℕ, _+_}
+use Prim.Native.Nat.{ℕ}
 use Rattle.bits.specs.Choice.{pick, sumBelow}
 use Rattle.bits.specs.Rows.{joined}
 use Rattle.element.specs.declared.types.Kind.{Kind}
 use Rattle.element.specs.Types.{kindOf}
 use Rattle.element.specs.Control.{controlOf}
+use Rattle.build_order.specs.Search.{Search, best}
 use Rattle.build_element.specs.Wishes.{inReach, one}
-use Rattle.build_element.specs.Parts.{selects, overallFor}
+use Rattle.build_element.specs.Parts.{selects, overallSearch}
 use Rattle.shelf.specs.Types.{typeCode, typeCount, before, kindAt}
 use Rattle.shelf.specs.Elements.{settingsAt}
+use Rattle.shelf.specs.SettingsList.{settingsIn}
 use Rattle.page.specs.declared.slots.Slot.{Slot}
 use Rattle.page.specs.Slots.{slotsOf, slotType, slotAt}
 use Rattle.page.specs.Header.{header}
-use Rattle.control_page.specs.Brought.{settingsIn}
 use Rattle.build_overall.specs.Choice.{storedFrom, wantedFrom}
 
 -- of type t: its kind, and what is stored and wanted of its element i
@@ -27,9 +28,12 @@ storedIn s t i = storedFrom s (before s t) i
 abbrev pub wantedIn : List ℕ → List ℕ → ℕ → ℕ → List ℕ
 wantedIn s w t i = wantedFrom w (before s t) i
 
--- its overall element
+-- the search for its overall element, and what it finds
+abbrev pub searchIn : List ℕ → List ℕ → ℕ → Search
+searchIn s w t = overallSearch (typeKind s t) (storedIn s t) (wantedIn s w t) (typeCount s t)
+
 unfoldable pub overallIn : List ℕ → List ℕ → ℕ → List ℕ
-overallIn s w t = overallFor (typeKind s t) (storedIn s t) (wantedIn s w t) (typeCount s t)
+overallIn s w t = best (searchIn s w t)
 
 -- the four bytes of a slot where o is the overall element of its type
 unfoldable pub rowUnder : List ℕ → List ℕ → Slot → List ℕ → List ℕ

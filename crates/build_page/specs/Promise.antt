@@ -17,10 +17,11 @@ use Rattle.refusals.specs.declared.Answer.{Answer}
 use Rattle.refusals.specs.declared.Answer.the-variants as answer
 use Rattle.refusals.specs.Outcomes.{unless, next}
 use Rattle.shelf.specs.Types.{elementsOf, kindAt}
+use Rattle.shelf.specs.SettingsList.{settingsIn}
 use Rattle.page.specs.Slots.{slotsOf, slotPlace}
 use Rattle.page.specs.Header.{shelfTested}
 use Rattle.control_page.specs.Tests.{valid}
-use Rattle.control_page.specs.Brought.{broughtTo, settingsIn}
+use Rattle.control_page.specs.Brought.{broughtTo}
 use Rattle.build_page.specs.declared.built.Built.{Built}
 use Rattle.build_page.specs.declared.built.Built.the-variants.{Refused}
 use Rattle.build_page.specs.Outcome.{builtOf, leftBy}

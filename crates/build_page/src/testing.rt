@@ -3,6 +3,7 @@ use element::settings;
 use refusals::Answer;
 use refusals::Refusal;
 use shelf::elements;
+use shelf::settings_list;
 use shelf::types;
 ghost use mathlib.Core.Path.{_≡_};
 ghost use Prim.Native.Nat.{_*_, _≤_};
@@ -24,7 +25,7 @@ fn may_be(shelf: &[u8], wanted: &[u8], n: u16) -> bool
         let here = types::run_to(shelf, run, j);
         run = here;
         let kind = here.kind;
-        if !settings::are_formed(kind, build_overall::wanted_at(wanted, j)) {
+        if !settings::are_formed(kind, settings_list::settings_in(wanted, j)) {
             return false;
         }
         j += 1;
@@ -47,7 +48,7 @@ pub fn reach(shelf: &[u8], wanted: &[u8], n: u16) -> bool
         if !build_element::in_reach(
             kind,
             elements::settings_at(shelf, j),
-            build_overall::wanted_at(wanted, j),
+            settings_list::settings_in(wanted, j),
         ) {
             return false;
         }

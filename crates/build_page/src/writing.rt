@@ -6,6 +6,7 @@ use page::slots;
 use page::slots::Slot;
 use refusals::Refusal;
 use shelf::elements;
+use shelf::settings_list;
 ghost use mathlib.Core.Path.{_≡_};
 ghost use mathlib.Core.Bool.{true};
 ghost use Prim.Native.Nat.{_*_, _≤_};
@@ -59,7 +60,7 @@ fn row(shelf: &[u8], wanted: &[u8], at: Slot, overall: u32) -> [u8; 4]
         kind,
         over,
         elements::settings_at(shelf, at.first),
-        build_overall::wanted_at(wanted, at.first),
+        settings_list::settings_in(wanted, at.first),
     )
 }
 

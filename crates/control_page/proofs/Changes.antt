@@ -18,6 +18,8 @@ use Rattle.element.proofs.Acting.{settled-formed, settled-twice, settled-none}
 use Rattle.shelf.specs.Limits.{elementPlace}
 use Rattle.shelf.specs.Types.{elementsOf, kindAt}
 use Rattle.shelf.specs.Elements.{settingsAt, thresholdsAt, readingAt, nominalAt}
+use Rattle.shelf.specs.SettingsList.{settingsIn, storedSettings, withSettings}
+use Rattle.shelf.proofs.SettingsList.{settings-place}
 use Rattle.shelf_formed.specs.Formed.{wellFormed}
 use Rattle.shelf_formed.proofs.ElementPut.{room}
 use Rattle.shelf_formed.proofs.ElementTypes.{front-formed}
@@ -31,10 +33,10 @@ use Rattle.page.specs.Places.{ownSlot, overallSlot, placesOf}
 use Rattle.page.proofs.ElementSlots.{places-alike, own-there, overall-there}
 use Rattle.page.proofs.SameFront.{slots-alike, slot-alike, tested-alike}
 use Rattle.control_page.specs.Tests.{slotOffending, valid}
-use Rattle.control_page.specs.Brought.{actingAt, settingsAfter, broughtTo, storedSettings, settingsIn, withSettings}
+use Rattle.control_page.specs.Brought.{actingAt, settingsAfter, broughtTo}
 pub use Rattle.control_page.specs.Brought.{after}
 use Rattle.control_page.proofs.ValidPage.{valid-headed, valid-formed, valid-first, valid-slot, parts-valid}
-use Rattle.control_page.proofs.PageActs.{settings-place, after-length}
+use Rattle.control_page.proofs.PageActs.{after-length}
 
 module _ (s p : List ℕ) where
   abbrev n : ℕ
@@ -139,7 +141,7 @@ twice s p = by-case (valid s p) accepted-twice refused-twice
     refused-twice v = ap (λ (x : List ℕ). after x p) (pick-no (valid s p) (withSettings s (broughtTo s p)) s v)
 
     settled-again : (at : Places) (e : List ℕ) → settled (at .kind) (actingAt p at) (settled (at .kind) (actingAt p at) e) ≡ settled (at .kind) (actingAt p at) e
-    settled-again at e = settled-twice (at .kind) (fourAt p (at .overall)) (fourAt p (at .own)) e
+    settled-again at e = settled-twice (at .kind) (fourAt p (at .overallplace)) (fourAt p (at .ownplace)) e
 
     accepted-twice : valid s p ≡ true → after (after s p) p ≡ after s p
     accepted-twice v =

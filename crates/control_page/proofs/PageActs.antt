@@ -3,11 +3,10 @@ use mathlib.Core.Path.{_≡_, refl, sym, ap, _∙_}
 use mathlib.Core.Bool.{true, false}
 use mathlib.Core.List.{List}
 use Prim.Native.Nat.{ℕ, _+_, _<_}
-use native.Mathlib.Nat.{add-zero}
 use native.Mathlib.Omega.{arith}
 use lib.ListN.{length}
 use Rattle.bits.specs.Places.{fourAt, putFour, foursPut}
-use Rattle.bits.proofs.FoursPut.{put-same, fours-next, fours-length, fours-joined}
+use Rattle.bits.proofs.FoursPut.{put-same, fours-next, fours-length}
 use Rattle.element.specs.declared.types.Kind.{Kind}
 use Rattle.element.specs.declared.settings.Settings.{Settings}
 use Rattle.element.specs.declared.control.Control.{Control}
@@ -20,6 +19,8 @@ use Rattle.refusals.specs.declared.Answer.the-variants.{Accepted, Refused}
 use Rattle.shelf.specs.Limits.{elementPlace, HasElement}
 use Rattle.shelf.specs.Types.{elementsOf}
 use Rattle.shelf.specs.Elements.{settingsAt, settingsPut}
+use Rattle.shelf.specs.SettingsList.{withSettings}
+use Rattle.shelf.proofs.SettingsList.{settings-place, settings-length, list-put}
 use Rattle.shelf_formed.proofs.FrontOfShelf.{front}
 use Rattle.shelf_formed.proofs.ElementsPut.{front-after, row-later}
 use Rattle.page.specs.declared.places.Places.{Places}
@@ -29,7 +30,7 @@ use Rattle.page.proofs.HeaderBothWays.{tested-has}
 use Rattle.page.proofs.ElementSlots.{places-alike, element-there}
 use Rattle.control_page.specs.Tests.{controlTested, valid}
 use Rattle.control_page.proofs.ValidPage.{valid-headed}
-use Rattle.control_page.specs.Brought.{actingAt, settingsAfter, broughtTo, withSettings, after}
+use Rattle.control_page.specs.Brought.{actingAt, settingsAfter, broughtTo, after}
 
 -- one element
 module _ (s : List ℕ) (j : ℕ) where
@@ -39,17 +40,17 @@ module _ (s : List ℕ) (j : ℕ) where
   acted-by k e t hc hf hx hy hg ho = ho ∙ ap (settingsPut s j) (hg ∙ rw (hy, hx, hc, hf) (sym (settled-by k e (settingsAt s j) t)))
 
   -- by its own control element, by the overall one, by none
-  module _ (p : List ℕ) {at : Places} {b : List ℕ} (q : at ≡ placesOf s j) (hb : b ≡ fourAt p (at .own)) where
-    made : (e : List ℕ) → chosen (controlOf (at .kind) (fourAt p (at .overall))) (controlOf (at .kind) (fourAt p (at .own))) ≡ controlOf (at .kind) e
+  module _ (p : List ℕ) {at : Places} {b : List ℕ} (q : at ≡ placesOf s j) (hb : b ≡ fourAt p (at .ownplace)) where
+    made : (e : List ℕ) → chosen (controlOf (at .kind) (fourAt p (at .overallplace))) (controlOf (at .kind) (fourAt p (at .ownplace))) ≡ controlOf (at .kind) e
         → settled (at .kind) (controlOf (at .kind) e) (settingsAt s j) ≡ settingsAfter s p j
     unfolding settingsAfter
     made e h = ap (λ (c : Control). settled (at .kind) c (settingsAt s j)) (sym h) ∙ ap (λ (z : Places). settled (z .kind) (actingAt p z) (settingsAt s j)) q
 
     pub by-own : {o : List ℕ} → selected b ≡ true → o ≡ settingsPut s j (settled (at .kind) (controlOf (at .kind) b) (settingsAt s j))
         → o ≡ settingsPut s j (settingsAfter s p j)
-    by-own t ho = ho ∙ ap (settingsPut s j) (made b (rw (← hb) (own-acts (at .kind) (fourAt p (at .overall)) b t)))
+    by-own t ho = ho ∙ ap (settingsPut s j) (made b (rw (← hb) (own-acts (at .kind) (fourAt p (at .overallplace)) b t)))
 
-    module _ {a : List ℕ} (ha : a ≡ fourAt p (at .overall)) (f : selected b ≡ false) where
+    module _ {a : List ℕ} (ha : a ≡ fourAt p (at .overallplace)) (f : selected b ≡ false) where
       by-rest : settled (at .kind) (controlOf (at .kind) a) (settingsAt s j) ≡ settingsAfter s p j
       by-rest = made a (rw (← hb, ← ha) (overall-acts (at .kind) a b f))
 
@@ -61,14 +62,11 @@ module _ (s : List ℕ) (j : ℕ) where
       unfolding settingsAt settingsPut
       by-none u = sym (ap (putFour s (elementPlace j)) (sym by-rest ∙ settled-alone (at .kind) a (settingsAt s j) u) ∙ put-same s (elementPlace j))
 
-pub settings-place : (j : ℕ) → elementPlace j ≡ elementPlace j + 0
-settings-place j = sym (add-zero (elementPlace j))
-
 -- one element after the other
 module _ (s p : List ℕ) where
   pub after-length : (j : ℕ) → length (settingsAfter s p j) ≡ 4
-  unfolding settingsAfter settingsAt
-  after-length j = settled-length (placesOf s j .kind) (actingAt p (placesOf s j)) (settingsAt s j) refl
+  unfolding settingsAfter
+  after-length j = settled-length (placesOf s j .kind) (actingAt p (placesOf s j)) (settingsAt s j) (settings-length s j)
 
   abbrev pub partly : ℕ → List ℕ
   partly n = foursPut elementPlace (settingsAfter s p) s n
@@ -97,8 +95,8 @@ module _ (s p : List ℕ) where
   partly-length n e = fours-length elementPlace (settingsAfter s p) s n e
 
   pub all-acted : (n : ℕ) {x : List ℕ} → n ≡ elementsOf s → x ≡ partly n → x ≡ withSettings s (broughtTo s p)
-  unfolding withSettings broughtTo
-  all-acted n q e = e ∙ ap partly q ∙ fours-joined elementPlace (settingsAfter s p) after-length s (elementsOf s)
+  unfolding broughtTo
+  all-acted n q e = e ∙ ap partly q ∙ list-put (settingsAfter s p) after-length s
 
   -- the call as a whole
   module _ {a : Answer} (h : a ≡ controlTested s p) where

@@ -1,41 +1,29 @@
 -- What a control page brings a shelf to, and what the call leaves of it. Assumes nothing.
 use mathlib.Core.List.{List}
-use Prim.Native.Nat.{ℕ, _*_}
+use Prim.Native.Nat.{ℕ}
 use Rattle.bits.specs.Choice.{pick}
-use Rattle.bits.specs.Places.{fourAt, foursPut}
+use Rattle.bits.specs.Places.{fourAt}
 use Rattle.bits.specs.Rows.{joined}
 use Rattle.element.specs.declared.control.Control.{Control}
 use Rattle.element.specs.Control.{controlOf, chosen, settled}
-use Rattle.shelf.specs.Limits.{elementPlace}
 use Rattle.shelf.specs.Types.{elementsOf}
 use Rattle.shelf.specs.Elements.{settingsAt}
+use Rattle.shelf.specs.SettingsList.{withSettings}
 use Rattle.page.specs.declared.places.Places.{Places}
 use Rattle.page.specs.Places.{placesOf}
 use Rattle.control_page.specs.Tests.{valid}
 
 -- the control element that acts on an element with these slots
 abbrev pub actingAt : List ℕ → Places → Control
-actingAt p at = chosen (controlOf (at .kind) (fourAt p (at .overall))) (controlOf (at .kind) (fourAt p (at .own)))
+actingAt p at = chosen (controlOf (at .kind) (fourAt p (at .overallplace))) (controlOf (at .kind) (fourAt p (at .ownplace)))
 
 -- the settings of element j after the page, as the shelf stores them
 unfoldable pub settingsAfter : List ℕ → List ℕ → ℕ → List ℕ
 settingsAfter s p j = settled (placesOf s j .kind) (actingAt p (placesOf s j)) (settingsAt s j)
 
--- the settings that the page brings the shelf to: four bytes for each element, in the order of the elements
+-- the settings that the page brings the shelf to, as a list
 unfoldable pub broughtTo : List ℕ → List ℕ → List ℕ
 broughtTo s p = joined (settingsAfter s p) (elementsOf s)
-
--- the settings that a shelf has, in the same form
-abbrev pub storedSettings : List ℕ → List ℕ
-storedSettings s = joined (settingsAt s) (elementsOf s)
-
--- the four bytes of element j in such a list
-abbrev pub settingsIn : List ℕ → ℕ → List ℕ
-settingsIn w j = fourAt w (4 * j)
-
--- the shelf with these settings
-unfoldable pub withSettings : List ℕ → List ℕ → List ℕ
-withSettings s w = foursPut elementPlace (settingsIn w) s (elementsOf s)
 
 -- the shelf after the call: with the settings of a page that it accepts, else as it was
 abbrev pub after : List ℕ → List ℕ → List ℕ

@@ -11,9 +11,10 @@ ghost use mathlib.Core.Bool.{true};
 ghost use Rattle.element.specs.Control.{selected, controlOf, settled};
 ghost use Rattle.shelf.specs.Limits.{HasElement};
 ghost use Rattle.shelf.specs.Elements.{settingsAt, settingsPut};
+ghost use Rattle.shelf.specs.SettingsList.{withSettings};
 ghost use Rattle.page.specs.Places.{placesOf, HasSlots};
 ghost use Rattle.page.specs.Header.{HasPage};
-ghost use Rattle.control_page.specs.Brought.{settingsAfter, broughtTo, withSettings};
+ghost use Rattle.control_page.specs.Brought.{settingsAfter, broughtTo};
 
 fn act_by(shelf: &mut [u8], kind: Kind, e: [u8; 4], j: u16)
     requires { ⌜ HasElement (now shelf) j ⌝ }
@@ -33,12 +34,12 @@ fn act_on(shelf: &mut [u8], page: &[u8], at: Places, j: u16)
     ensures { λ _. ⌜ now (shelf .exit) ≡ settingsPut (now (shelf .entry)) j (settingsAfter (now (shelf .entry)) (now (page .entry)) j) ⌝ }
 {
     let kind = at.kind;
-    let own = bits::four_at(page, at.own);
+    let own = bits::four_at(page, at.ownplace);
     if Control::is_selected(own) {
         act_by(shelf, kind, own, j);
         return;
     }
-    let overall = bits::four_at(page, at.overall);
+    let overall = bits::four_at(page, at.overallplace);
     if Control::is_selected(overall) {
         act_by(shelf, kind, overall, j);
     }

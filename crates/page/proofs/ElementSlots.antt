@@ -92,7 +92,7 @@ module _ (s p : List ℕ) (h : HasPage s p) where
   element-there x e m j l =
       let f = front-there .0 in
       let a = places-alike s x e j l in
-      (omega (arith, room s j (h .0) l), (omega (arith, ap (λ (q : Places). q .overall) a, overall-there s j l f), omega (arith, ap (λ (q : Places). q .own) a, own-there s j l f)))
+      (omega (arith, room s j (h .0) l), (omega (arith, ap (λ (q : Places). q .overallplace) a, overall-there s j l f), omega (arith, ap (λ (q : Places). q .ownplace) a, own-there s j l f)))
 
 -- and what is read for a slot
 pub slot-has : (s : List ℕ) → wellFormed s ≡ true → (i : ℕ) → i < slotsOf s → {at : Slot} → at ≡ slotAt s i → HasElements s at

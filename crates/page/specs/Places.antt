@@ -16,12 +16,12 @@ abbrev pub overallSlot : List ℕ → ℕ → ℕ
 overallSlot c j = startOf c (typeOf c j)
 
 unfoldable pub placesOf : List ℕ → ℕ → Places
-placesOf c j = record { kind = kindAt c j; overall = slotPlace (overallSlot c j); own = slotPlace (ownSlot c j) }
+placesOf c j = record { kind = kindAt c j; overallplace = slotPlace (overallSlot c j); ownplace = slotPlace (ownSlot c j) }
 
 -- the same from the element's type with its elements
 unfoldable pub placesIn : Run → ℕ → Places
-placesIn r j = record { kind = r .kind; overall = slotPlace (r .before + r .number); own = slotPlace (j + r .number + 1) }
+placesIn r j = record { kind = r .kind; overallplace = slotPlace (r .before + r .number); ownplace = slotPlace (j + r .number + 1) }
 
 -- the page p has the bytes of both slots
 abbrev pub HasSlots : List ℕ → Places → Type 0
-HasSlots p at = (at .overall + 4 ≤ length p) × (at .own + 4 ≤ length p)
+HasSlots p at = (at .overallplace + 4 ≤ length p) × (at .ownplace + 4 ≤ length p)

@@ -7,8 +7,8 @@ ghost use Rattle.page.specs.Places.{placesIn};
 // The type of the element, and where on the page the two slots stand.
 pub struct Places {
     pub kind: Kind,
-    pub overall: u32,
-    pub own: u32,
+    pub overallplace: u32,
+    pub ownplace: u32,
 }
 
 pub fn places_in(run: Run, j: u16) -> Places
@@ -17,7 +17,7 @@ pub fn places_in(run: Run, j: u16) -> Places
     let kind = run.kind;
     Places {
         kind,
-        overall: 8 + 4 * (run.before as u32 + run.number as u32),
-        own: 8 + 4 * (j as u32 + run.number as u32 + 1),
+        overallplace: 8 + 4 * (run.before as u32 + run.number as u32),
+        ownplace: 8 + 4 * (j as u32 + run.number as u32 + 1),
     }
 }

@@ -29,8 +29,9 @@ use Rattle.status_page.specs.Page.{slotBytes, pageWith, statusPage}
 use Rattle.refusals.specs.declared.Answer.the-variants.{Accepted}
 use Rattle.refusals.specs.Outcomes.{accepts}
 use Rattle.refusals.proofs.AcceptedTests.{accepted}
+use Rattle.build_order.specs.Search.{cost, better, best}
 use Rattle.build_element.specs.Wishes.{inReach, alike, requestBytes, own, brings, one}
-use Rattle.build_element.specs.Parts.{cost, tried, better, overallFor}
+use Rattle.build_element.specs.Parts.{tried, tries}
 use Rattle.build_page.specs.Promise.{wishTested}
 use Rattle.build_page.specs.Page.{overallIn, rowUnder, rowFor, selectsFor, controlPage, reachable}
 use Rattle.build_page.proofs.PromiseKept.{none-reaches, page-promised}
@@ -109,6 +110,6 @@ unfolding settingsOf settingsBytes controlOf reservedIn offending chosen settled
     layoutOf readingAllowed nominalAllowed settingsFormed had ordered before elementsOf typeOf kindAt settingsAt thresholdsAt readingAt nominalAt
     spareAt headFormed textFormed typeFormed typeEmpty slotFormed typesFormed spareClear elementFormed elementsFormed frontFormed wellFormed slotsOf
     startOf slotType isOverall slotAt header shownAt verdictAt codeAt worst shownIn pageBits slotBytes pageWith statusPage firstOf lengthSaid headed
-    pageTested placesOf slotOffending offence controlTested valid settingsAfter broughtTo inReach alike requestBytes own brings one cost tried better
-    overallFor wishTested overallIn rowUnder rowFor controlPage reachable given told
+    pageTested placesOf slotOffending offence controlTested valid settingsAfter broughtTo inReach alike requestBytes own brings one tried tries cost
+    better best wishTested overallIn rowUnder rowFor controlPage reachable given told
 proved = all-hold table refl

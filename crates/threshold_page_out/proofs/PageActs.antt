@@ -26,7 +26,7 @@ use Rattle.threshold_page_out.proofs.ValidPage.{valid-headed}
 use Rattle.threshold_page_out.specs.Taken.{takenAt, thresholdsAfter, takenFrom, withThresholds}
 
 -- one element
-pub taken-is : (p : List ℕ) (at : Places) {a b t x : List ℕ} {stored : List ℕ} → a ≡ fourAt p (at .own) → b ≡ fourAt p (at .overall) → t ≡ stored
+pub taken-is : (p : List ℕ) (at : Places) {a b t x : List ℕ} {stored : List ℕ} → a ≡ fourAt p (at .ownplace) → b ≡ fourAt p (at .overallplace) → t ≡ stored
     → x ≡ taken a b t → x ≡ takenAt p at stored
 taken-is p at ha hb ht h = h ∙ rw (ha, hb, ht)
 

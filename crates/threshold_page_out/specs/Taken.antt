@@ -12,7 +12,7 @@ use Rattle.page.specs.Places.{placesOf}
 
 -- of the bytes in these two slots and the stored ones, each the first that counts
 abbrev pub takenAt : List ℕ → Places → List ℕ → List ℕ
-takenAt p at stored = taken (fourAt p (at .own)) (fourAt p (at .overall)) stored
+takenAt p at stored = taken (fourAt p (at .ownplace)) (fourAt p (at .overallplace)) stored
 
 -- the thresholds of element j after the page
 unfoldable pub thresholdsAfter : List ℕ → List ℕ → ℕ → List ℕ

@@ -18,8 +18,8 @@ pub fn taken_at(shelf: &[u8], page: &[u8], at: Places, j: u16) -> [u8; 4]
     ensures { λ r. ⌜ r ≡ takenAt (now (page .entry)) at (thresholdsAt (now (shelf .entry)) j) ⌝ }
 {
     thresholds::taken(
-        bits::four_at(page, at.own),
-        bits::four_at(page, at.overall),
+        bits::four_at(page, at.ownplace),
+        bits::four_at(page, at.overallplace),
         elements::thresholds_at(shelf, j),
     )
 }

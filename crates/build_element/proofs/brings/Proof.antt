@@ -26,7 +26,12 @@ alike-requires-2 : tie.Need-alike-requires-2
 alike-requires-2 c κs = search needs
 
 returns : tie.Need-returns
-returns c = let s = c .before .before .before .before .before .before .before .args in acts-is (s .kind) (s .control) (s .stored) (s .wanted) (c .before .before .before .before .before .before .is-selected .ensures) (c .before .before .before .before .before .if1 .taken) (c .before .before .before .before .of .ensures) (c .before .before .before .of2 .ensures) (c .before .before .act .ensures) (c .before .bytes .ensures) (c .alike .ensures)
+returns c =
+    let a = c .before .before .before .before .before in
+    let s = a .before .before .args in
+    acts-is (s .kind) (s .control) (s .stored) (s .wanted) (a .before .is-selected .ensures) (a .if1 .taken)
+    (c .before .before .before .before .of .ensures) (c .before .before .before .of2 .ensures)
+    (c .before .before .act .ensures) (c .before .bytes .ensures) (c .alike .ensures)
 
 returns-2 : tie.Need-returns-2
 returns-2 c = let s = c .before .before .before .args in leaves-is (s .kind) (s .control) (s .stored) (s .wanted) (c .before .before .is-selected .ensures) (c .before .if1 .left) (c .alike2 .ensures)

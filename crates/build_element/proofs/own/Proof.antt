@@ -16,13 +16,13 @@ turning-requires c κs = search needs
 request-requires : tie.Need-request-requires
 request-requires c κs = search needs
 
-ask-requires : tie.Need-ask-requires
-ask-requires c κs = search needs
+request-bytes-requires : tie.Need-request-bytes-requires
+request-bytes-requires c κs = search needs
 
 returns : tie.Need-returns
-returns c = let s = c .before .before .before .before .before .before .before .args in own-is (s .kind) (s .stored) (s .wanted) (c .before .before .before .before .before .before .of .ensures) (c .before .before .before .before .before .of2 .ensures) (c .before .before .before .before .turning .ensures) (c .before .request .ensures) (c .ask .ensures)
+returns c = let s = c .before .before .before .before .before .before .before .args in own-is (s .kind) (s .stored) (s .wanted) (c .before .before .before .before .before .before .of .ensures) (c .before .before .before .before .before .of2 .ensures) (c .before .before .before .before .turning .ensures) (c .before .request .ensures) (c .request-bytes .ensures)
 
 pub own-spec : {M : Type 1} → statement M
 own-spec =
     tie.close
-    (tie.spec of-requires of-requires-2 turning-requires request-requires ask-requires returns)
+    (tie.spec of-requires of-requires-2 turning-requires request-requires request-bytes-requires returns)

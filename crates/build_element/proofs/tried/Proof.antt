@@ -10,20 +10,20 @@ of-requires c κs = search needs
 request-requires : tie.Need-request-requires
 request-requires c κs = search needs
 
-ask-requires : tie.Need-ask-requires
-ask-requires c κs = search needs
+request-bytes-requires : tie.Need-request-bytes-requires
+request-bytes-requires c κs = search needs
 
 request-requires-2 : tie.Need-request-requires-2
 request-requires-2 c κs = search needs
 
-ask-requires-2 : tie.Need-ask-requires-2
-ask-requires-2 c κs = search needs
+request-bytes-requires-2 : tie.Need-request-bytes-requires-2
+request-bytes-requires-2 c κs = search needs
 
 returns : tie.Need-returns
-returns c = let s = c .before .before .before .before .args in uncoded-is (s .kind) (s .wanted) (s .v) (c .before .before .before .of .ensures) (c .before .before .if1 .taken) (c .before .request .ensures) (c .ask .ensures)
+returns c = let s = c .before .before .before .before .args in uncoded-is (s .kind) (s .wanted) (s .v) (c .before .before .before .of .ensures) (c .before .before .if1 .taken) (c .before .request .ensures) (c .request-bytes .ensures)
 
 returns-2 : tie.Need-returns-2
-returns-2 c = let s = c .before .before .before .before .args in coded-is (s .kind) (s .wanted) (s .v) (c .before .before .before .of .ensures) (c .before .before .if1 .left) (c .before .request2 .ensures) (c .ask2 .ensures)
+returns-2 c = let s = c .before .before .before .before .args in coded-is (s .kind) (s .wanted) (s .v) (c .before .before .before .of .ensures) (c .before .before .if1 .left) (c .before .request2 .ensures) (c .request-bytes2 .ensures)
 
 pub tried-spec : {M : Type 1} → statement M
 tried-spec =
@@ -31,8 +31,8 @@ tried-spec =
     (tie.spec
     of-requires
     request-requires
-    ask-requires
+    request-bytes-requires
     request-requires-2
-    ask-requires-2
+    request-bytes-requires-2
     returns
     returns-2)

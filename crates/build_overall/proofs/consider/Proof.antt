@@ -9,8 +9,8 @@ use Rattle.build_overall.proofs.consider.Tie as tie
 is-repeated-requires : tie.Need-is-repeated-requires
 is-repeated-requires c κs = search needs
 
-wanted-at-requires : tie.Need-wanted-at-requires
-wanted-at-requires c κs = search needs
+settings-in-requires : tie.Need-settings-in-requires
+settings-in-requires c κs = search needs
 
 try-record-requires : tie.Need-try-record-requires
 try-record-requires c κs = let q = c .before .before .before .before .before in let s = q .args in (q .pre .0, best-ranked (now (s .shelf)) (now (s .wanted)) (s .at) (s .j - s .at .first) (q .pre .1 .1))
@@ -19,9 +19,9 @@ returns : tie.Need-returns
 returns c = let s = c .before .before .before .before .args in record-again (now (s .shelf)) (now (s .wanted)) (s .at) (s .j) (c .before .before .before .before .pre .1 .0 .0) (c .before .before .before .before .pre .1 .1) (c .before .is-repeated .ensures) (c .if1 .taken)
 
 returns-2 : tie.Need-returns-2
-returns-2 c = let s = c .before .before .before .before .before .before .args in record-new (now (s .shelf)) (now (s .wanted)) (s .at) (s .j) (c .before .before .before .before .before .before .pre .1 .0 .0) (c .before .before .before .before .before .before .pre .1 .1) (c .before .wanted-at .ensures) (c .try-record .ensures)
+returns-2 c = let s = c .before .before .before .before .before .before .args in record-new (now (s .shelf)) (now (s .wanted)) (s .at) (s .j) (c .before .before .before .before .before .before .pre .1 .0 .0) (c .before .before .before .before .before .before .pre .1 .1) (c .before .settings-in .ensures) (c .try-record .ensures)
 
 pub consider-spec : {M : Type 1} → statement M
 consider-spec =
     tie.close
-    (tie.spec is-repeated-requires wanted-at-requires try-record-requires returns returns-2)
+    (tie.spec is-repeated-requires settings-in-requires try-record-requires returns returns-2)

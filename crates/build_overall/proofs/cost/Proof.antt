@@ -30,8 +30,8 @@ loop-holds c = let s = c .before .before .args in let h : Fits w8 (getD (s .t4) 
 settings-at-requires : tie.Need-settings-at-requires Inv-loop μ-loop
 settings-at-requires c κs = search needs
 
-wanted-at-requires : tie.Need-wanted-at-requires Inv-loop μ-loop
-wanted-at-requires c κs = search needs
+settings-in-requires : tie.Need-settings-in-requires Inv-loop μ-loop
+settings-in-requires c κs = search needs
 
 brings-requires : tie.Need-brings-requires Inv-loop μ-loop
 brings-requires c κs = search needs
@@ -49,7 +49,14 @@ loop-less : tie.Need-loop-less Inv-loop μ-loop
 loop-less c = omega arith
 
 loop-again : tie.Need-loop-again Inv-loop μ-loop
-loop-again c = let s = c .before .before .before .before .before .before .before .before .args in let l = c .before .before .before .before .before .loop in let t = c .before .before .before .if1 .taken in let b = bool-small (not (c .brings .result)) in (omega (arith, l .inv .0), omega (arith, l .inv .0, l .inv .1, t), omega (arith, l .inv .2, b), counted-next (now (s .shelf)) (now (s .wanted)) (s .at) (s .t4) (l .j) (l .inv .0) (c .before .before .settings-at .ensures) (c .before .wanted-at .ensures) (c .brings .ensures) (l .inv .3))
+loop-again c =
+    let s = c .before .before .before .before .before .before .before .before .args in
+    let l = c .before .before .before .before .before .loop in
+    let t = c .before .before .before .if1 .taken in
+    let b = bool-small (not (c .brings .result)) in
+    let n = counted-next (now (s .shelf)) (now (s .wanted)) (s .at) (s .t4) (l .j) (l .inv .0) (c .before .before .settings-at .ensures)
+    (c .before .settings-in .ensures) (c .brings .ensures) (l .inv .3) in
+    (omega (arith, l .inv .0), omega (arith, l .inv .0, l .inv .1, t), omega (arith, l .inv .2, b), n)
 
 returns : tie.Need-returns Inv-loop μ-loop
 returns c = let s = c .before .before .before .before .before .args in let l = c .before .before .loop in counted-all (now (s .shelf)) (now (s .wanted)) (s .at) (s .t4) (l .j - s .at .first) (omega (arith, l .inv .0, l .inv .1, c .if1 .left)) (l .inv .3)
@@ -64,7 +71,7 @@ cost-spec =
     cast-n
     loop-holds
     settings-at-requires
-    wanted-at-requires
+    settings-in-requires
     brings-requires
     cast-n-2
     add-n

@@ -17,20 +17,25 @@ Inv-loop wanted first j x i₀ i = (first ≤ i) × (i - first ≤ j - first) ×
 abbrev μ-loop : tie.MeasureT-loop
 μ-loop wanted first j x i₀ i = j - i
 
-wanted-at-requires : tie.Need-wanted-at-requires Inv-loop μ-loop
-wanted-at-requires c κs = search needs
+settings-in-requires : tie.Need-settings-in-requires Inv-loop μ-loop
+settings-in-requires c κs = search needs
 
 loop-holds : tie.Need-loop-holds Inv-loop μ-loop
 loop-holds c = let s = c .before .before .args in (omega arith, omega arith, none-like (now (s .wanted)) (s .first) (s .j))
 
-wanted-at-requires-2 : tie.Need-wanted-at-requires-2 Inv-loop μ-loop
-wanted-at-requires-2 c κs = search needs
+settings-in-requires-2 : tie.Need-settings-in-requires-2 Inv-loop μ-loop
+settings-in-requires-2 c κs = search needs
 
 alike-requires : tie.Need-alike-requires Inv-loop μ-loop
 alike-requires c κs = search needs
 
 returns : tie.Need-returns Inv-loop μ-loop
-returns c = let s = c .before .before .before .before .before .before .before .args in found-like (now (s .wanted)) (s .first) (s .j) (c .before .before .before .before .loop .i) (c .before .before .before .before .loop .inv .0) (c .before .before .before .before .before .wanted-at .ensures) (c .before .before .wanted-at2 .ensures) (c .before .alike .ensures) (c .before .before .before .before .loop .inv .2) (c .before .before .before .loop-test .taken) (c .if1 .taken)
+returns c =
+    let a = c .before .before .before in
+    let s = a .before .before .before .before .args in
+    let l = a .before .loop in
+    found-like (now (s .wanted)) (s .first) (s .j) (l .i) (l .inv .0) (a .before .before .settings-in .ensures) (c .before .before .settings-in2 .ensures)
+    (c .before .alike .ensures) (l .inv .2) (a .loop-test .taken) (c .if1 .taken)
 
 add-i : tie.Need-add-i Inv-loop μ-loop
 add-i c = omega arith
@@ -39,7 +44,13 @@ loop-less : tie.Need-loop-less Inv-loop μ-loop
 loop-less c = omega arith
 
 loop-again : tie.Need-loop-again Inv-loop μ-loop
-loop-again c = let s = c .before .before .before .before .before .before .before .args in let l = c .before .before .before .before .loop in (omega (arith, l .inv .0), omega (arith, l .inv .0, l .inv .1, c .before .before .before .loop-test .taken), not-like (now (s .wanted)) (s .first) (s .j) (l .i) (l .inv .0) (c .before .before .before .before .before .wanted-at .ensures) (c .before .before .wanted-at2 .ensures) (c .before .alike .ensures) (l .inv .2) (c .if1 .left))
+loop-again c =
+    let a = c .before .before .before in
+    let s = a .before .before .before .before .args in
+    let l = a .before .loop in
+    let n = not-like (now (s .wanted)) (s .first) (s .j) (l .i) (l .inv .0) (a .before .before .settings-in .ensures) (c .before .before .settings-in2 .ensures)
+    (c .before .alike .ensures) (l .inv .2) (c .if1 .left) in
+    (omega (arith, l .inv .0), omega (arith, l .inv .0, l .inv .1, a .loop-test .taken), n)
 
 returns-2 : tie.Need-returns-2 Inv-loop μ-loop
 returns-2 c = let s = c .before .before .before .before .args in let l = c .before .loop in all-unlike (now (s .wanted)) (s .first) (s .j) (l .i - s .first) (omega (arith, l .inv .0, l .inv .1, c .loop-test .left)) (l .inv .2)
@@ -50,9 +61,9 @@ is-repeated-spec =
     (tie.spec
     Inv-loop
     μ-loop
-    wanted-at-requires
+    settings-in-requires
     loop-holds
-    wanted-at-requires-2
+    settings-in-requires-2
     alike-requires
     returns
     add-i

@@ -41,7 +41,15 @@ same-length : tie.Need-same-length
 same-length c = search needs
 
 returns-3 : tie.Need-returns-3
-returns-3 c = let s = c .before .before .before .before .before .before .before .before .before .before .before .before .before .args in page-promised (now (s .shelf)) (now (s .wanted)) (now (s .out)) (c .before .before .before .before .before .before .before .before .before .wish .ensures) (c .before .before .before .before .before .before .before .enum-told .given .1) (bytes-of (now (s .shelf)) (λ i. omega (arith, c .before .before .before .before .before .before .before .before .before .before .before .before .shared-slice-known .given i))) (bytes-of (now (s .wanted)) (λ i. omega (arith, c .before .before .before .before .before .before .before .before .before .before .before .shared-slice-known2 .given i))) (c .before .before .before .before .before .before .all-elements .ensures) (c .before .before .before .before .before .reach .ensures) (not-false _ (c .before .before .before .before .if1 .left)) (c .before .before .write .ensures .0) (c .before .before .write .ensures .1)
+returns-3 c =
+    let a = c .before .before .before .before in
+    let t = a .before .before .before .before .before in
+    let s = t .before .before .before .before .args in
+    let hs = bytes-of (now (s .shelf)) (λ i. omega (arith, t .before .before .before .shared-slice-known .given i)) in
+    let hw = bytes-of (now (s .wanted)) (λ i. omega (arith, t .before .before .shared-slice-known2 .given i)) in
+    page-promised (now (s .shelf)) (now (s .wanted)) (now (s .out)) (t .wish .ensures) (a .before .before .before .enum-told .given .1) hs hw
+    (a .before .before .all-elements .ensures) (a .before .reach .ensures) (not-false _ (a .if1 .left))
+    (c .before .before .write .ensures .0) (c .before .before .write .ensures .1)
 
 pub build-spec : {M : Type 1} → statement M
 build-spec =

@@ -8,7 +8,7 @@ use mathlib.Core.Bool.{true}
 use Rattle.bits.specs.Choice.{allBelow}
 use borrow.Author.Tests.{not-true, not-false}
 use Rattle.shelf.specs.Types.{carried}
-use Rattle.shelf.proofs.TypeRuns.{run-kind, run-on}
+use Rattle.shelf.proofs.TypeRuns.{run-on}
 use Rattle.build_page.proofs.Loops.{formed-at, fails-at, passes-at, passes-all}
 use Rattle.build_page.specs.Promise.{mayBe}
 use Rattle.build_page.proofs.testing.may_be.Statement.{statement}
@@ -29,14 +29,19 @@ loop-holds c = (omega arith, c .first-run .ensures, refl)
 run-to-requires : tie.Need-run-to-requires Inv-loop μ-loop
 run-to-requires c κs = (omega (arith, c .before .before .before .before .before .pre .0, c .loop-test .taken), c .before .loop .inv .1)
 
-wanted-at-requires : tie.Need-wanted-at-requires Inv-loop μ-loop
-wanted-at-requires c κs = search needs
+settings-in-requires : tie.Need-settings-in-requires Inv-loop μ-loop
+settings-in-requires c κs = search needs
 
 are-formed-requires : tie.Need-are-formed-requires Inv-loop μ-loop
 are-formed-requires c κs = search needs
 
 returns : tie.Need-returns Inv-loop μ-loop
-returns c = let s = c .before .before .before .before .before .before .before .before .before .args in fails-at (mayBe (now (s .shelf)) (now (s .wanted))) (s .n) (c .before .before .before .before .before .loop .j) (formed-at (now (s .shelf)) (now (s .wanted)) (c .before .before .before .before .before .loop .j) (run-kind (now (s .shelf)) (c .before .before .before .before .before .loop .j) (c .before .before .before .run-to .ensures)) (c .before .before .wanted-at .ensures) (c .before .are-formed .ensures)) (c .before .before .before .before .loop-test .taken) (not-true _ (c .if1 .taken))
+returns c =
+    let a = c .before .before .before in
+    let l = a .before .before .loop in
+    let s = a .before .before .before .before .before .before .args in
+    let h = formed-at (now (s .shelf)) (now (s .wanted)) (l .j) (a .run-to .ensures) (c .before .before .settings-in .ensures) (c .before .are-formed .ensures) in
+    fails-at (mayBe (now (s .shelf)) (now (s .wanted))) (s .n) (l .j) h (a .before .loop-test .taken) (not-true _ (c .if1 .taken))
 
 add-j : tie.Need-add-j Inv-loop μ-loop
 add-j c = omega arith
@@ -45,7 +50,15 @@ loop-less : tie.Need-loop-less Inv-loop μ-loop
 loop-less c = omega arith
 
 loop-again : tie.Need-loop-again Inv-loop μ-loop
-loop-again c = let s = c .before .before .before .before .before .before .before .before .before .args in (omega arith, run-on (now (s .shelf)) (c .before .before .before .before .before .loop .j) (c .before .before .before .run-to .ensures), passes-at (mayBe (now (s .shelf)) (now (s .wanted))) (s .n) (c .before .before .before .before .before .loop .j) (formed-at (now (s .shelf)) (now (s .wanted)) (c .before .before .before .before .before .loop .j) (run-kind (now (s .shelf)) (c .before .before .before .before .before .loop .j) (c .before .before .before .run-to .ensures)) (c .before .before .wanted-at .ensures) (c .before .are-formed .ensures)) (c .before .before .before .before .before .loop .inv .2) (not-false _ (c .if1 .left)))
+loop-again c =
+    let a = c .before .before .before in
+    let l = a .before .before .loop in
+    let s = a .before .before .before .before .before .before .args in
+    let h = formed-at (now (s .shelf)) (now (s .wanted)) (l .j) (a .run-to .ensures) (c .before .before .settings-in .ensures) (c .before .are-formed .ensures) in (
+      omega arith,
+      run-on (now (s .shelf)) (l .j) (a .run-to .ensures),
+      passes-at (mayBe (now (s .shelf)) (now (s .wanted))) (s .n) (l .j) h (l .inv .2) (not-false _ (c .if1 .left)),
+    )
 
 returns-2 : tie.Need-returns-2 Inv-loop μ-loop
 returns-2 c = let s = c .before .before .before .before .before .args in passes-all (mayBe (now (s .shelf)) (now (s .wanted))) (s .n) (c .before .loop .j) (omega arith) (c .before .loop .inv .2)
@@ -59,7 +72,7 @@ may-be-spec =
     first-run-requires
     loop-holds
     run-to-requires
-    wanted-at-requires
+    settings-in-requires
     are-formed-requires
     returns
     add-j

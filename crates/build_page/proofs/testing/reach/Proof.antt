@@ -8,7 +8,7 @@ use mathlib.Core.Bool.{true}
 use Rattle.bits.specs.Choice.{allBelow}
 use borrow.Author.Tests.{not-true, not-false}
 use Rattle.shelf.specs.Types.{carried}
-use Rattle.shelf.proofs.TypeRuns.{run-kind, run-on}
+use Rattle.shelf.proofs.TypeRuns.{run-on}
 use Rattle.build_page.proofs.Loops.{reach-at, fails-at, passes-at, passes-all}
 use Rattle.build_page.specs.Page.{reachable}
 use Rattle.build_page.proofs.testing.reach.Statement.{statement}
@@ -32,14 +32,19 @@ run-to-requires c κs = (omega (arith, c .before .before .before .before .before
 settings-at-requires : tie.Need-settings-at-requires Inv-loop μ-loop
 settings-at-requires c κs = search needs
 
-wanted-at-requires : tie.Need-wanted-at-requires Inv-loop μ-loop
-wanted-at-requires c κs = search needs
+settings-in-requires : tie.Need-settings-in-requires Inv-loop μ-loop
+settings-in-requires c κs = search needs
 
 in-reach-requires : tie.Need-in-reach-requires Inv-loop μ-loop
 in-reach-requires c κs = search needs
 
 returns : tie.Need-returns Inv-loop μ-loop
-returns c = let s = c .before .before .before .before .before .before .before .before .before .before .args in fails-at (reachable (now (s .shelf)) (now (s .wanted))) (s .n) (c .before .before .before .before .before .before .loop .j) (reach-at (now (s .shelf)) (now (s .wanted)) (c .before .before .before .before .before .before .loop .j) (run-kind (now (s .shelf)) (c .before .before .before .before .before .before .loop .j) (c .before .before .before .before .run-to .ensures)) (c .before .before .before .settings-at .ensures) (c .before .before .wanted-at .ensures) (c .before .in-reach .ensures)) (c .before .before .before .before .before .loop-test .taken) (not-true _ (c .if1 .taken))
+returns c =
+    let a = c .before .before .before .before in
+    let l = a .before .before .loop in
+    let s = a .before .before .before .before .before .before .args in
+    let h = reach-at (now (s .shelf)) (now (s .wanted)) (l .j) (a .run-to .ensures) (c .before .before .before .settings-at .ensures) (c .before .before .settings-in .ensures) (c .before .in-reach .ensures) in
+    fails-at (reachable (now (s .shelf)) (now (s .wanted))) (s .n) (l .j) h (a .before .loop-test .taken) (not-true _ (c .if1 .taken))
 
 add-j : tie.Need-add-j Inv-loop μ-loop
 add-j c = omega arith
@@ -48,7 +53,15 @@ loop-less : tie.Need-loop-less Inv-loop μ-loop
 loop-less c = omega arith
 
 loop-again : tie.Need-loop-again Inv-loop μ-loop
-loop-again c = let s = c .before .before .before .before .before .before .before .before .before .before .args in (omega arith, run-on (now (s .shelf)) (c .before .before .before .before .before .before .loop .j) (c .before .before .before .before .run-to .ensures), passes-at (reachable (now (s .shelf)) (now (s .wanted))) (s .n) (c .before .before .before .before .before .before .loop .j) (reach-at (now (s .shelf)) (now (s .wanted)) (c .before .before .before .before .before .before .loop .j) (run-kind (now (s .shelf)) (c .before .before .before .before .before .before .loop .j) (c .before .before .before .before .run-to .ensures)) (c .before .before .before .settings-at .ensures) (c .before .before .wanted-at .ensures) (c .before .in-reach .ensures)) (c .before .before .before .before .before .before .loop .inv .2) (not-false _ (c .if1 .left)))
+loop-again c =
+    let a = c .before .before .before .before in
+    let l = a .before .before .loop in
+    let s = a .before .before .before .before .before .before .args in
+    let h = reach-at (now (s .shelf)) (now (s .wanted)) (l .j) (a .run-to .ensures) (c .before .before .before .settings-at .ensures) (c .before .before .settings-in .ensures) (c .before .in-reach .ensures) in (
+      omega arith,
+      run-on (now (s .shelf)) (l .j) (a .run-to .ensures),
+      passes-at (reachable (now (s .shelf)) (now (s .wanted))) (s .n) (l .j) h (l .inv .2) (not-false _ (c .if1 .left)),
+    )
 
 returns-2 : tie.Need-returns-2 Inv-loop μ-loop
 returns-2 c = let s = c .before .before .before .before .before .args in passes-all (reachable (now (s .shelf)) (now (s .wanted))) (s .n) (c .before .loop .j) (omega arith) (c .before .loop .inv .2)
@@ -63,7 +76,7 @@ reach-spec =
     loop-holds
     run-to-requires
     settings-at-requires
-    wanted-at-requires
+    settings-in-requires
     in-reach-requires
     returns
     add-j

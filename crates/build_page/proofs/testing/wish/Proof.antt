@@ -37,10 +37,18 @@ may-be-requires : tie.Need-may-be-requires
 may-be-requires c κs = let s = now (c .before .before .before .before .before .before .before .args .shelf) in let f = shelf-formed s (c .before .before .before .before .shelf .ensures) (c .before .before .enum-told .given .1) in (omega (arith, c .before .all-elements .ensures, length-formed s f), omega (arith, c .if1 .left))
 
 returns-3 : tie.Need-returns-3
-returns-3 c = let s = c .before .before .before .before .before .before .before .before .before .args in other-record (now (s .shelf)) (now (s .wanted)) (c .before .before .before .before .before .before .shelf .ensures) (c .before .before .before .before .enum-told .given .1) (c .before .before .before .all-elements .ensures) (c .before .before .if1 .left) (c .before .may-be .ensures) (not-true _ (c .if2 .taken))
+returns-3 c =
+    let a = c .before .before .before .before in
+    let s = a .before .before .before .before .before .args in
+    other-record (now (s .shelf)) (now (s .wanted)) (a .before .before .shelf .ensures) (a .enum-told .given .1) (c .before .before .before .all-elements .ensures)
+    (c .before .before .if1 .left) (c .before .may-be .ensures) (not-true _ (c .if2 .taken))
 
 returns-4 : tie.Need-returns-4
-returns-4 c = let s = c .before .before .before .before .before .before .before .before .before .args in wish-taken (now (s .shelf)) (now (s .wanted)) (c .before .before .before .before .before .before .shelf .ensures) (c .before .before .before .before .enum-told .given .1) (c .before .before .before .all-elements .ensures) (c .before .before .if1 .left) (c .before .may-be .ensures) (not-false _ (c .if2 .left))
+returns-4 c =
+    let a = c .before .before .before .before in
+    let s = a .before .before .before .before .before .args in
+    wish-taken (now (s .shelf)) (now (s .wanted)) (a .before .before .shelf .ensures) (a .enum-told .given .1) (c .before .before .before .all-elements .ensures)
+    (c .before .before .if1 .left) (c .before .may-be .ensures) (not-false _ (c .if2 .left))
 
 pub wish-spec : {M : Type 1} → statement M
 wish-spec =

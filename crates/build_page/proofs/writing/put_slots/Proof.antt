@@ -10,7 +10,7 @@ use Rattle.page.specs.Slots.{slotPlace, slotsPut, slotCarried}
 use Rattle.page.proofs.SlotBounds.{shelf-there}
 use Rattle.page.proofs.SlotWalk.{run-stands, slot-walked, walk-on}
 use Rattle.bits.proofs.FoursPut.{fours-next, fours-length}
-use Rattle.build_page.proofs.Loops.{standing, row-next, row-counts, count-next, slot-wishes}
+use Rattle.build_page.proofs.Loops.{standing, row-next, count-next, slot-wishes}
 use Rattle.build_page.specs.Page.{rowFor, selectsFor}
 use Rattle.build_page.proofs.writing.put_slots.Statement.{statement}
 use Rattle.build_page.proofs.writing.put_slots.Tie as tie
@@ -37,22 +37,43 @@ overall-requires : tie.Need-overall-requires Inv-loop μ-loop
 overall-requires c κs = let q = c .before .before .before .before .before .before .before .before in let s = now (q .args .shelf) in let l = c .before .before .before .loop in slot-wishes s (now (q .args .wanted)) (q .pre .0 .0) (q .pre .1 .1) (l .i) (omega (arith, q .pre .1 .0, c .before .before .loop-test .taken)) (slot-walked s (l .i) (c .before .run-to .ensures) (c .slot-in .ensures))
 
 row-requires : tie.Need-row-requires Inv-loop μ-loop
-row-requires c κs = let q = c .before .before .before .before .before .before .before .before .before in let s = now (q .args .shelf) in let l = c .before .before .before .before .loop in slot-wishes s (now (q .args .wanted)) (q .pre .0 .0) (q .pre .1 .1) (l .i) (omega (arith, q .pre .1 .0, c .before .before .before .loop-test .taken)) (slot-walked s (l .i) (c .before .before .run-to .ensures) (c .before .slot-in .ensures))
+row-requires c κs =
+    let q = c .before .before .before .before .before .before .before .before .before in
+    let s = now (q .args .shelf) in
+    let l = c .before .before .before .before .loop in
+    slot-wishes s (now (q .args .wanted)) (q .pre .0 .0) (q .pre .1 .1) (l .i) (omega (arith, q .pre .1 .0, c .before .before .before .loop-test .taken))
+    (slot-walked s (l .i) (c .before .before .run-to .ensures) (c .before .slot-in .ensures))
 
 slot-place-requires : tie.Need-slot-place-requires Inv-loop μ-loop
 slot-place-requires c κs = search needs
 
 put-four-requires : tie.Need-put-four-requires Inv-loop μ-loop
-put-four-requires c κs = let q = c .before .before .before .before .before .before .before .before .before .before .before .before in let l = c .before .before .before .before .before .before .before .loop in omega (arith, c .slot-place .ensures, q .pre .0 .1, q .pre .1 .0, c .before .before .before .before .before .before .loop-test .taken, fours-length slotPlace (rowFor (now (q .args .shelf)) (now (q .args .wanted))) (now (q .args .out)) (l .i) (l .inv .4))
+put-four-requires c κs =
+    let q = c .before .before .before .before .before .before .before .before .before .before .before .before in
+    let l = c .before .before .before .before .before .before .before .loop in
+    let n = fours-length slotPlace (rowFor (now (q .args .shelf)) (now (q .args .wanted))) (now (q .args .out)) (l .i) (l .inv .4) in
+    omega (arith, c .slot-place .ensures, q .pre .0 .1, q .pre .1 .0, c .before .before .before .before .before .before .loop-test .taken, n)
 
 array-read-sum : tie.Need-array-read-sum Inv-loop μ-loop
 array-read-sum c = search needs
 
 cast-sum : tie.Need-cast-sum Inv-loop μ-loop
-cast-sum c = let s = c .before .before .before .before .before .before .before .before .before .before .before .before .before .before .before .args in let l = c .before .before .before .before .before .before .before .before .before .before .loop in let r = row-next (now (s .shelf)) (now (s .wanted)) (l .i) (slot-walked (now (s .shelf)) (l .i) (c .before .before .before .before .before .before .before .before .run-to .ensures) (c .before .before .before .before .before .before .before .slot-in .ensures)) (l .inv .2) (c .before .before .before .before .before .before .overall .ensures) (c .before .before .before .before .before .row .ensures) in let k = row-counts (now (s .shelf)) (now (s .wanted)) (l .i) (r .1) in omega (arith, k .1)
+cast-sum c =
+    let a = c .before .before .before .before .before in
+    let s = a .before .before .before .before .before .before .before .before .before .before .args in
+    let l = a .before .before .before .before .before .loop in
+    let r = row-next (now (s .shelf)) (now (s .wanted)) (l .i) (a .before .before .before .run-to .ensures) (a .before .before .slot-in .ensures) (l .inv .2)
+    (a .before .overall .ensures) (a .row .ensures) in
+    omega (arith, r .2)
 
 add-sum : tie.Need-add-sum Inv-loop μ-loop
-add-sum c = let s = c .before .before .before .before .before .before .before .before .before .before .before .before .before .before .before .args in let l = c .before .before .before .before .before .before .before .before .before .before .loop in let r = row-next (now (s .shelf)) (now (s .wanted)) (l .i) (slot-walked (now (s .shelf)) (l .i) (c .before .before .before .before .before .before .before .before .run-to .ensures) (c .before .before .before .before .before .before .before .slot-in .ensures)) (l .inv .2) (c .before .before .before .before .before .before .overall .ensures) (c .before .before .before .before .before .row .ensures) in let k = row-counts (now (s .shelf)) (now (s .wanted)) (l .i) (r .1) in omega (arith, k .1, l .inv .1, l .inv .0, l .inv .6)
+add-sum c =
+    let a = c .before .before .before .before .before in
+    let s = a .before .before .before .before .before .before .before .before .before .before .args in
+    let l = a .before .before .before .before .before .loop in
+    let r = row-next (now (s .shelf)) (now (s .wanted)) (l .i) (a .before .before .before .run-to .ensures) (a .before .before .slot-in .ensures) (l .inv .2)
+    (a .before .overall .ensures) (a .row .ensures) in
+    omega (arith, r .2, l .inv .1, l .inv .0, l .inv .6)
 
 add-i : tie.Need-add-i Inv-loop μ-loop
 add-i c = let l = c .before .before .before .before .before .before .before .before .before .before .loop in omega (arith, l .inv .6, c .before .before .before .before .before .before .before .before .before .loop-test .taken)
@@ -62,16 +83,18 @@ loop-less c = omega arith
 
 loop-again : tie.Need-loop-again Inv-loop μ-loop
 loop-again c =
-    let s = c .before .before .before .before .before .before .before .before .before .before .before .before .before .before .before .args in
-    let l = c .before .before .before .before .before .before .before .before .before .before .loop in
-    let r = row-next (now (s .shelf)) (now (s .wanted)) (l .i) (slot-walked (now (s .shelf)) (l .i) (c .before .before .before .before .before .before .before .before .run-to .ensures) (c .before .before .before .before .before .before .before .slot-in .ensures)) (l .inv .2) (c .before .before .before .before .before .before .overall .ensures) (c .before .before .before .before .before .row .ensures) in
-    let k = row-counts (now (s .shelf)) (now (s .wanted)) (l .i) (r .1) in (
-      omega (arith, c .before .before .before .before .before .before .before .before .before .loop-test .taken),
-      omega (arith, k .1, l .inv .1),
+    let a = c .before .before .before .before .before in
+    let s = a .before .before .before .before .before .before .before .before .before .before .args in
+    let l = a .before .before .before .before .before .loop in
+    let r = row-next (now (s .shelf)) (now (s .wanted)) (l .i) (a .before .before .before .run-to .ensures) (a .before .before .slot-in .ensures) (l .inv .2)
+    (a .before .overall .ensures) (a .row .ensures) in (
+      omega (arith, a .before .before .before .before .loop-test .taken),
+      omega (arith, r .2, l .inv .1),
       r .0,
       count-next (now (s .shelf)) (now (s .wanted)) (l .i) (l .inv .3) (r .1),
-      fours-next slotPlace (rowFor (now (s .shelf)) (now (s .wanted))) (now (s .out)) (l .i) (l .inv .4) (c .before .before .before .slot-place .ensures) (r .1) (c .before .before .put-four .ensures),
-      walk-on (now (s .shelf)) (l .i) (c .before .before .before .before .before .before .before .before .run-to .ensures),
+      fours-next slotPlace (rowFor (now (s .shelf)) (now (s .wanted))) (now (s .out)) (l .i) (l .inv .4) (c .before .before .before .slot-place .ensures) (r .1)
+          (c .before .before .put-four .ensures),
+      walk-on (now (s .shelf)) (l .i) (a .before .before .before .run-to .ensures),
       l .inv .6,
     )
 

@@ -16,14 +16,14 @@ returns c = let s = c .before .before .before .before .args in row-overall (now 
 settings-at-requires : tie.Need-settings-at-requires
 settings-at-requires c κs = let q = c .before .before .before .before in omega (arith, q .pre .0 .0, q .pre .0 .1 (c .if1 .left))
 
-wanted-at-requires : tie.Need-wanted-at-requires
-wanted-at-requires c κs = let q = c .before .before .before .before .before in omega (arith, q .pre .1, q .pre .0 .1 (c .before .if1 .left))
+settings-in-requires : tie.Need-settings-in-requires
+settings-in-requires c κs = let q = c .before .before .before .before .before in omega (arith, q .pre .1, q .pre .0 .1 (c .before .if1 .left))
 
 one-requires : tie.Need-one-requires
 one-requires c κs = search needs
 
 returns-2 : tie.Need-returns-2
-returns-2 c = let s = c .before .before .before .before .before .before .before .args in row-own (now (s .shelf)) (now (s .wanted)) (s .at) (bytes 4 (s .overall)) (c .before .before .before .if1 .left) (c .before .before .before .before .four-of .ensures) (c .before .before .settings-at .ensures) (c .before .wanted-at .ensures) (c .one .ensures)
+returns-2 c = let s = c .before .before .before .before .before .before .before .args in row-own (now (s .shelf)) (now (s .wanted)) (s .at) (bytes 4 (s .overall)) (c .before .before .before .if1 .left) (c .before .before .before .before .four-of .ensures) (c .before .before .settings-at .ensures) (c .before .settings-in .ensures) (c .one .ensures)
 
 pub row-spec : {M : Type 1} → statement M
 row-spec =
@@ -32,6 +32,6 @@ row-spec =
     four-of-requires
     returns
     settings-at-requires
-    wanted-at-requires
+    settings-in-requires
     one-requires
     returns-2)

@@ -25,13 +25,26 @@ put-requires : tie.Need-put-requires
 put-requires c κs = let q = c .before .before .before .before .before .before .before in (shelf-there (now (q .args .shelf)) (q .pre .0) .1, omega (arith, c .before .before .slot-place .ensures, c .before .if1 .left))
 
 put-slots-requires : tie.Need-put-slots-requires
-put-slots-requires c κs = let q = c .before .before .before .before .before .before .before .before .before .before .before in let s = now (q .args .shelf) in ((q .pre .0, omega (arith, c .before .before .before .before .before .before .before .count .ensures, c .before .before .before .before .before .before .slot-place .ensures, c .before .before .before .before .before .if1 .left, head-length s (now (q .args .out)) 2 0 _ (c .before .before .before .put .ensures))), (c .before .before .before .before .before .before .before .count .ensures, q .pre .1))
+put-slots-requires c κs =
+    let a = c .before .before .before .before .before in
+    let q = a .before .before .before .before .before .before in
+    let n = a .before .before .count .ensures in
+    let h = head-length (now (q .args .shelf)) (now (q .args .out)) 2 0 _ (c .before .before .before .put .ensures) in
+    ((q .pre .0, omega (arith, n, a .before .slot-place .ensures, a .if1 .left, h)), (n, q .pre .1))
 
 same-length : tie.Need-same-length
 same-length c = search needs
 
 returns-2 : tie.Need-returns-2
-returns-2 c = let s = c .before .before .before .before .before .before .before .before .before .before .before .before .before .before .args in let e = c .before .before .before .before .before .before .before .before .before .before .count .ensures in let p = c .before .before .before .before .before .before .before .before .before .slot-place .ensures in let l = c .before .before .before .before .before .before .before .before .if1 .left in (page-built (now (s .shelf)) (now (s .wanted)) (now (s .out)) e p l (c .before .before .put-slots .ensures .0), page-left (now (s .shelf)) (now (s .wanted)) (now (s .out)) e p l (c .before .before .put-slots .result) (c .before .before .before .before .before .before .put .ensures) (c .before .before .put-slots .ensures .1))
+returns-2 c =
+    let a = c .before .before .before .before .before .before .before .before in
+    let s = a .before .before .before .before .before .before .args in
+    let e = a .before .before .count .ensures in
+    let p = a .before .slot-place .ensures in
+    let w = c .before .before .put-slots in (
+      page-built (now (s .shelf)) (now (s .wanted)) (now (s .out)) e p (a .if1 .left) (w .ensures .0),
+      page-left (now (s .shelf)) (now (s .wanted)) (now (s .out)) e p (a .if1 .left) (w .result) (c .before .before .before .before .before .before .put .ensures) (w .ensures .1),
+    )
 
 pub write-spec : {M : Type 1} → statement M
 write-spec =

@@ -1,8 +1,8 @@
--- `build_element::ask` meets its contract. Assumes nothing.
-use Rattle.build_element.proofs.RequestBytes.{ask-is}
+-- `build_element::request_bytes` meets its contract. Assumes nothing.
+use Rattle.build_element.proofs.RequestBytes.{request-bytes-is}
 use borrow.Author.Needs.{needs}
-use Rattle.build_element.proofs.ask.Statement.{statement}
-use Rattle.build_element.proofs.ask.Tie as tie
+use Rattle.build_element.proofs.request_bytes.Statement.{statement}
+use Rattle.build_element.proofs.request_bytes.Tie as tie
 
 bytes-requires : tie.Need-bytes-requires
 bytes-requires c κs = search needs
@@ -20,9 +20,9 @@ array-read-t17 : tie.Need-array-read-t17
 array-read-t17 c = search needs
 
 returns : tie.Need-returns
-returns c = let s = c .before .args in ask-is (s .kind) (s .request) (c .bytes .ensures)
+returns c = let s = c .before .args in request-bytes-is (s .kind) (s .request) (c .bytes .ensures)
 
-pub ask-spec : {M : Type 1} → statement M
-ask-spec =
+pub request-bytes-spec : {M : Type 1} → statement M
+request-bytes-spec =
     tie.close
     (tie.spec bytes-requires array-read-t7 array-read-t11 array-read-t14 array-read-t17 returns)

@@ -1,8 +1,7 @@
--- `build_element::sooner` meets its contract. Assumes nothing.
-use Rattle.build_element.proofs.RequestBytes.{sooner-is}
+-- `build_order::sooner` meets its contract. Assumes nothing.
 use borrow.Author.Needs.{needs}
-use Rattle.build_element.proofs.sooner.Statement.{statement}
-use Rattle.build_element.proofs.sooner.Tie as tie
+use Rattle.build_order.proofs.sooner.Statement.{statement}
+use Rattle.build_order.proofs.sooner.Tie as tie
 
 slice-aggregate-big32-at : tie.Need-slice-aggregate-big32-at
 slice-aggregate-big32-at c = search needs
@@ -17,7 +16,7 @@ big32-at-requires-2 : tie.Need-big32-at-requires-2
 big32-at-requires-2 c κs = search needs
 
 returns : tie.Need-returns
-returns c = let s = c .before .before .before .before .args in sooner-is (s .m) (s .n) (s .t2) (s .t4) (c .before .before .big32-at .ensures) (c .big32-at2 .ensures)
+returns c = rw (c .before .before .big32-at .ensures, c .big32-at2 .ensures)
 
 pub sooner-spec : {M : Type 1} → statement M
 sooner-spec =

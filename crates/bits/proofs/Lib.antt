@@ -10,3 +10,4 @@ pub mod RowStarts
 pub mod Parts
 pub mod RowsPut
 pub mod Every
+pub mod Masks

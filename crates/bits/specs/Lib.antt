@@ -3,3 +3,4 @@ pub mod Bits
 pub mod Numbers
 pub mod Places
 pub mod Rows
+pub mod Masks

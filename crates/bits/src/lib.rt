@@ -5,9 +5,10 @@ ghost use mathlib.Core.Path.{_≡_};
 ghost use Prim.Native.Nat.{_+_, _*_, _<_, _≤_};
 ghost use lib.ListN.{getD, length};
 ghost use Rattle.bits.specs.Choice.{firstOf};
-ghost use Rattle.bits.specs.Bits.{nibble, join, printable};
+ghost use Rattle.bits.specs.Bits.{within, nibble, join, printable};
 ghost use Rattle.bits.specs.Places.{fourAt, putFour, twoAt};
-ghost use Rattle.bits.specs.Numbers.{big};
+ghost use Rattle.bits.specs.Numbers.{big, bytes};
+ghost use Rattle.bits.specs.Masks.{firstOutside};
 ghost use Rattle.bits.specs.Rows.{bytesAt, putBytes};
 
 // Four flags as half a byte, the first the highest.
@@ -46,6 +47,49 @@ pub fn first_of(a: bool, b: bool, c: bool, d: bool) -> u8
     } else {
         4
     }
+}
+
+// The number that four bytes say.
+pub fn number(e: [u8; 4]) -> u32
+    ensures { λ r. ⌜ r ≡ big (fourAt e 0) ⌝ }
+{
+    big32_at(&e, 0)
+}
+
+// The four bytes that say a number.
+pub fn four_of(n: u32) -> [u8; 4]
+    ensures { λ r. ⌜ r ≡ bytes 4 n ⌝ }
+{
+    [
+        (n / 256 / 256 / 256 % 256) as u8,
+        (n / 256 / 256 % 256) as u8,
+        (n / 256 % 256) as u8,
+        (n % 256) as u8,
+    ]
+}
+
+// Four bytes have no bit but those of a mask. Both are looked at as one number.
+pub fn are_within(e: [u8; 4], mask: u32) -> bool
+    ensures { λ r. ⌜ r ≡ within mask (big (fourAt e 0)) ⌝ }
+{
+    let n = number(e);
+    n & mask == n
+}
+
+// The first byte with a bit that its byte of the mask does not have; 4 if none has one.
+pub fn first_outside(e: [u8; 4], mask: u32) -> u8
+    ensures { λ r. ⌜ r ≡ firstOutside (bytes 4 mask) e ⌝ }
+{
+    if are_within(e, mask) {
+        return 4;
+    }
+    let m = four_of(mask);
+    first_of(
+        e[0] & m[0] == e[0],
+        e[1] & m[1] == e[1],
+        e[2] & m[2] == e[2],
+        e[3] & m[3] == e[3],
+    )
 }
 
 fn get(s: &[u8], k: usize) -> u8

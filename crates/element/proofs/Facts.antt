@@ -1,34 +1,31 @@
 -- The facts that theorems ask of a type's rules. Assumes nothing.
 use mathlib.Core.Path.{_≡_, refl}
 use mathlib.Core.Bool.{Bool, true, false, _||_}
-use mathlib.Core.List.{List, [], _∷_}
+use mathlib.Core.List.{List}
 use Prim.Native.Nat.{ℕ, _<_}
+use lib.Dec.{leb}
 use Rattle.bits.specs.Choice.{pick}
 use Rattle.element.specs.declared.settings.Settings.{Settings}
 use Rattle.element.specs.declared.verdict.Verdict.{Verdict}
 use Rattle.element.specs.Layouts.{unnamed}
-use Rattle.element.specs.Thresholds.{taken}
 use Rattle.element.specs.Verdict.{codeFor, judged}
-use Rattle.element.specs.Rules.{Rules, codeAllowed, unshown}
+use Rattle.element.specs.Rules.{Rules, codeAllowed, unshown, masksOf}
 use Rattle.element.proofs.SettingsBothWays.{Sound, Placed}
 use Rattle.element.proofs.Pieces.{AllLe}
 use Rattle.element.proofs.StatusBothWays.{Lays, allMost}
 
 module _ (r : Rules) where
   pub record Facts : Type 0 where
+    pub masked : r .masks ≡ masksOf (r .layout) (r .status) (r .thresholds)
     -- settings: the masks are sound, and what they do not name is reserved
     pub sound : Sound (r .layout)
     pub reserves : (e : List ℕ) → r .controlOffence e ≡ unnamed (r .layout) e
-    -- thresholds: what is taken from such as it may have is such, and four zeros pass every test
-    pub takes : (a b c : List ℕ) → r .had a ≡ true → r .had b ≡ true → r .had c ≡ true → r .had (taken a b c) ≡ true
-    pub none-had : r .had (0 ∷ 0 ∷ 0 ∷ 0 ∷ []) ≡ true
-    pub none-ordered : r .ordered (0 ∷ 0 ∷ 0 ∷ 0 ∷ []) ≡ true
     -- verdict: the code is one that a status element may have
     pub judges : (s : Settings) (v n : ℕ) (t : List ℕ) → codeAllowed (r .verdict s v n t .code) ≡ true
     -- status: the bytes are whole, what is no field is reserved, and what an element shows fits
     pub lays : Lays (r .status)
     pub hides : (e : List ℕ) → r .statusOffence e ≡ unshown (r .status) e
-    pub shows : (s : Settings) (v : Verdict) (n : ℕ) → n < 65536 → Placed (r .layout) s → r .reading n ≡ true → AllLe (r .fields s v n) (allMost (r .status))
+    pub shows : (s : Settings) (v : Verdict) (n : ℕ) → n < 65536 → Placed (r .layout) s → leb n (r .mostReading) ≡ true → AllLe (r .fields s v n) (allMost (r .status))
 
 -- codes 1, 2, 3 and 6 are allowed
 pub code-picked : (p q : Bool) → codeAllowed (codeFor p q) ≡ true

@@ -114,6 +114,15 @@ module _ (k : Kind) where
         at (suc (suc (suc zero))) = omega arith
         at (suc (suc (suc (suc i)))) = twelve-fit l (facts k .lays) b c d i
 
+  -- byte 0 has the code of the verdict
+  pub code-shown : (s : Settings) (r n : ℕ) (t : List ℕ) → getD (statusBytes k (shownBy k s r n t)) 0 0 % 16 ≡ verdictOf k s r n t .code
+  unfolding statusBytes shownBy entryBy verdictOf
+  code-shown s r n t =
+      let c = rulesOf k .verdict s r n t .code in
+      let h : c ≤ 8 = leb-true _ 8 (facts k .judges s r n t) in
+      ap (λ (x : List ℕ). getD x 0 0)
+      (first-back c (num (s .prdfail)) (num (s .disabled)) (num (s .swap)) (num-small (s .prdfail)) (num-small (s .disabled)) (num-small (s .swap)) h)
+
   -- what an element shows: it is not refused, and is read back
   module _ (s : Settings) (r n : ℕ) (t : List ℕ) (h : Storable k s) (m : r < 65536) (a : readingAllowed k r ≡ true) where
     abbrev v : Verdict

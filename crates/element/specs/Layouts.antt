@@ -7,8 +7,8 @@ use Prim.Native.Nat.{ℕ}
 use lib.Bits.{bitAnd, bitOr}
 use lib.Dec.{eqb}
 use lib.ListN.{getD}
-use Rattle.bits.specs.Choice.{firstOf}
-use Rattle.bits.specs.Bits.{bit, within, only, nibble, join}
+use Rattle.bits.specs.Bits.{bit, maskOf, nibble, join}
+use Rattle.bits.specs.Masks.{allWithin, firstOutside}
 use Rattle.element.specs.declared.layout.Layout.{Layout}
 use Rattle.element.specs.declared.settings.Settings.{Settings}
 
@@ -33,17 +33,17 @@ stored l s =
     ∷ bitOr (bitAnd (s .flags3) (l .flags3)) (bitAnd (s .speed) (l .speed))
     ∷ []
 
+-- the bits that settings have in each of the four bytes; a control element has SELECT too
+abbrev pub settingsMask : Layout → List ℕ
+settingsMask l = maskOf (6 ∷ 5 ∷ 4 ∷ []) ∷ l .flags1 ∷ l .flags2 ∷ bitOr (l .flags3) (l .speed) ∷ []
+
+abbrev pub controlMask : Layout → List ℕ
+controlMask l = maskOf (7 ∷ 6 ∷ 5 ∷ 4 ∷ []) ∷ l .flags1 ∷ l .flags2 ∷ bitOr (l .flags3) (l .speed) ∷ []
+
 -- the four bytes are such settings: no bit is set but the named ones, and a type with a speed has none of 0
 abbrev pub formed : Layout → List ℕ → Bool
-formed l e =
-    (((only (6 ∷ 5 ∷ 4 ∷ []) (getD e 0 0)
-    && within (l .flags1) (getD e 1 0))
-    && within (l .flags2) (getD e 2 0))
-    && within (bitOr (l .flags3) (l .speed)) (getD e 3 0))
-    && (eqb (l .speed) 0 || not (eqb (bitAnd (getD e 3 0) (l .speed)) 0))
+formed l e = allWithin (settingsMask l) e && (eqb (l .speed) 0 || not (eqb (bitAnd (getD e 3 0) (l .speed)) 0))
 
--- of a control element, which has SELECT too: the first byte with any other bit set, 4 if none has one
+-- of a control element: the first byte with any other bit set, 4 if none has one
 abbrev pub unnamed : Layout → List ℕ → ℕ
-unnamed l e =
-    firstOf (only (7 ∷ 6 ∷ 5 ∷ 4 ∷ []) (getD e 0 0)) (within (l .flags1) (getD e 1 0)) (within (l .flags2) (getD e 2 0))
-    (within (bitOr (l .flags3) (l .speed)) (getD e 3 0))
+unnamed l e = firstOutside (controlMask l) e

@@ -3,11 +3,6 @@ pub mod Thresholds
 pub mod Verdict
 pub mod StatusLayout
 pub mod Rules
-pub mod Cooling
-pub mod Sensors
-pub mod Temperature
-pub mod Voltage
-pub mod Current
 pub mod Types
 pub mod Settings
 pub mod Control

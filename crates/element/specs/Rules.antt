@@ -5,30 +5,16 @@ use Prim.Native.Nat.{ℕ, _%_}
 use lib.Dec.{leb}
 use lib.ListN.{getD}
 use Rattle.bits.specs.Choice.{firstOf}
-use Rattle.bits.specs.Bits.{within, only}
+use Rattle.bits.specs.Bits.{maskOf, within, only}
+use Rattle.bits.specs.Places.{fourAt}
+use Rattle.bits.specs.Numbers.{big}
+use Rattle.element.specs.declared.types.LowOrder.{LowOrder}
 use Rattle.element.specs.declared.layout.Layout.{Layout}
 use Rattle.element.specs.declared.settings.Settings.{Settings}
 use Rattle.element.specs.declared.verdict.Verdict.{Verdict}
-use Rattle.element.specs.StatusLayout.{StatusLayout, fieldMask}
-
-pub record Rules : Type 0 where
-  -- its code in a type list
-  pub code : ℕ
-  -- settings, both ways: which bits of bytes 1 to 3 are its flags, and which its speed
-  pub layout : Layout
-  -- the first byte of a selected control element, of all four, that is refused; 4 if none is
-  pub controlOffence : List ℕ → ℕ
-  -- which readings, nominals and thresholds it may have, and their order
-  pub reading : ℕ → Bool
-  pub nominal : ℕ → Bool
-  pub had : List ℕ → Bool
-  pub ordered : List ℕ → Bool
-  -- from settings, reading, nominal and thresholds
-  pub verdict : Settings → ℕ → ℕ → List ℕ → Verdict
-  -- the status element, both ways; the first byte of it, of all four, that is refused; and the fields that an element shows
-  pub status : StatusLayout
-  pub statusOffence : List ℕ → ℕ
-  pub fields : Settings → Verdict → ℕ → List ℕ
+use Rattle.element.specs.Layouts.{settingsMask}
+use Rattle.element.specs.Thresholds.{thresholdsMask}
+use Rattle.element.specs.StatusLayout.{StatusLayout, fieldMask, mostOf}
 
 -- codes 0 to 8
 abbrev pub codeAllowed : ℕ → Bool
@@ -38,9 +24,57 @@ codeAllowed n = leb n 8
 abbrev pub firstClear : ℕ → Bool
 firstClear a = only (6 ∷ 5 ∷ 4 ∷ 3 ∷ 2 ∷ 1 ∷ 0 ∷ []) a && codeAllowed (a % 16)
 
+-- the bits that are shown in each of the four bytes
+abbrev pub shownMask : StatusLayout → List ℕ
+shownMask l =
+    maskOf (6 ∷ 5 ∷ 4 ∷ 3 ∷ 2 ∷ 1 ∷ 0 ∷ []) ∷ fieldMask (l .second) ∷ fieldMask (l .third) ∷ fieldMask (l .fourth) ∷ []
+
 -- every bit of bytes 1 to 3 that is no field is zero
 abbrev pub unshown : StatusLayout → List ℕ → ℕ
 unshown l e =
     firstOf (firstClear (getD e 0 0)) (within (fieldMask (l .second)) (getD e 1 0))
     (within (fieldMask (l .third)) (getD e 2 0))
     (within (fieldMask (l .fourth)) (getD e 3 0))
+
+-- The bits that bytes may have, as the numbers that four bytes each say: of settings, of a status element, of the twelve bytes of an entry
+-- which the type lays out, and of thresholds.
+pub record Masks : Type 0 where
+  pub settings : ℕ
+  pub shown : ℕ
+  pub shownFirst : ℕ
+  pub shownNext : ℕ
+  pub shownLast : ℕ
+  pub thresholds : ℕ
+
+abbrev pub masksOf : Layout → StatusLayout → ℕ → Masks
+masksOf l s n = record {
+  settings = big (settingsMask l);
+  shown = big (shownMask s);
+  shownFirst = big (fourAt (mostOf s) 0);
+  shownNext = big (fourAt (mostOf s) 4);
+  shownLast = big (fourAt (mostOf s) 8);
+  thresholds = big (thresholdsMask n);
+}
+
+pub record Rules : Type 0 where
+  -- its code in a type list
+  pub code : ℕ
+  -- settings, both ways: which bits of bytes 1 to 3 are its flags, and which its speed
+  pub layout : Layout
+  -- the first byte of a selected control element, of all four, that is refused; 4 if none is
+  pub controlOffence : List ℕ → ℕ
+  -- the most that its reading may be, and the least and the most that its nominal may be
+  pub mostReading : ℕ
+  pub leastNominal : ℕ
+  pub mostNominal : ℕ
+  -- how many thresholds it has, of the four from the first on, and the order of the low two
+  pub thresholds : ℕ
+  pub lowOrder : LowOrder
+  -- from settings, reading, nominal and thresholds
+  pub verdict : Settings → ℕ → ℕ → List ℕ → Verdict
+  -- the status element, both ways; the first byte of it, of all four, that is refused; and the fields that an element shows
+  pub status : StatusLayout
+  pub statusOffence : List ℕ → ℕ
+  pub fields : Settings → Verdict → ℕ → List ℕ
+  -- what follows from these for the bits that bytes may have
+  pub masks : Masks

@@ -31,6 +31,10 @@ bytesIn l x = firstByte x ∷ three l x 4
 abbrev pub entryWith : Settings → Verdict → List ℕ → List ℕ
 entryWith s v f = (v .code ∷ num (s .prdfail) ∷ num (s .disabled) ∷ num (s .swap) ∷ []) ++ padded 12 f
 
+-- the four bytes of such an element, where the fields f follow from settings, verdict and reading
+abbrev pub statusWith : StatusLayout → (Settings → Verdict → ℕ → List ℕ) → Settings → Verdict → ℕ → List ℕ
+statusWith l f s v r = bytesIn l (entryWith s v (f s v r))
+
 -- the same of a type
 unfoldable pub entryOf : Kind → List ℕ → List ℕ
 entryOf k e = entryIn (rulesOf k .status) e

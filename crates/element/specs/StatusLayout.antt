@@ -3,6 +3,7 @@
 use mathlib.Core.Bool.{Bool}
 use mathlib.Core.List.{List, [], _∷_, _++_}
 use Prim.Native.Nat.{ℕ, zero, suc, _+_, _-_, _*_, _/_, _%_, _^_}
+use lib.Bits.{bitAnd, bitOr}
 use lib.Dec.{leb}
 use lib.ListN.{getD}
 use Rattle.bits.specs.Choice.{allBelow}
@@ -79,6 +80,33 @@ three l v i =
 -- the most that each of the twelve holds; a byte behind the last field shows nothing
 abbrev pub mostOf : StatusLayout → List ℕ
 mostOf l = padded 12 (mostIn (l .second) ++ (mostIn (l .third) ++ mostIn (l .fourth)))
+
+-- the lowest bit of each field in the number that four bytes say; b bits stand below the byte
+abbrev pub shiftsIn : ℕ → List Piece → List ℕ
+shiftsIn b [] = []
+shiftsIn b (field w ∷ ps) = (b + size ps) ∷ shiftsIn b ps
+shiftsIn b (reserved w ∷ ps) = shiftsIn b ps
+
+abbrev pub shiftsOf : StatusLayout → List ℕ
+shiftsOf l = padded 12 (shiftsIn 16 (l .second) ++ (shiftsIn 8 (l .third) ++ shiftsIn 0 (l .fourth)))
+
+-- fields by these: one cut out of such a number, and put onto one that has no bit there
+unfoldable pub cutAt : ℕ → ℕ → ℕ → ℕ
+cutAt n s m = bitAnd (n / 2 ^ (s % 32)) m
+
+unfoldable pub putOnto : ℕ → ℕ → ℕ → ℕ → ℕ
+putOnto x s m n = bitOr (bitAnd x m * 2 ^ (s % 32) % 2 ^ 32) n
+
+-- all of them
+abbrev pub cuts : ℕ → List ℕ → List ℕ → List ℕ
+cuts n [] ms = []
+cuts n (s ∷ ss) [] = []
+cuts n (s ∷ ss) (m ∷ ms) = cutAt n s m ∷ cuts n ss ms
+
+abbrev pub puts : List ℕ → List ℕ → List ℕ → ℕ → ℕ
+puts [] ms v i = 0
+puts (s ∷ ss) [] v i = 0
+puts (s ∷ ss) (m ∷ ms) v i = putOnto (getD v i 0) s m (puts ss ms v (suc i))
 
 -- each of the first n is at most what it may be
 abbrev pub holds : List ℕ → List ℕ → ℕ → Bool

@@ -1,10 +1,11 @@
 // A control element: what it asks, which of two acts, and what it makes of settings.
-use crate::layout::Layout;
 use crate::settings::Settings;
 use crate::types::Kind;
 ghost use mathlib.Core.Path.{_≡_};
-ghost use Rattle.element.specs.Layouts.{unnamed};
 ghost use Rattle.element.specs.Control.{selected, controlOf, reservedIn, offending, speedAfter, acted};
+
+// In the number that four bytes say.
+const SELECT: u32 = 0x80000000;
 
 // SELECT, and the settings that are requested, RST SWAP in the place of SWAP.
 pub struct Control {
@@ -80,21 +81,7 @@ impl Control {
 fn reserved(kind: Kind, e: [u8; 4]) -> u8
     ensures { λ r. ⌜ r ≡ reservedIn kind e ⌝ }
 {
-    match kind {
-        Kind::Cooling => unnamed(Layout::FAN, e),
-        Kind::Temperature | Kind::Voltage | Kind::Current => unnamed(Layout::SENSOR, e),
-    }
-}
-
-fn unnamed(layout: Layout, e: [u8; 4]) -> u8
-    ensures { λ r. ⌜ r ≡ unnamed layout e ⌝ }
-{
-    bits::first_of(
-        e[0] & 0xf0 == e[0],
-        e[1] & layout.flags1 == e[1],
-        e[2] & layout.flags2 == e[2],
-        e[3] & (layout.flags3 | layout.speed) == e[3],
-    )
+    bits::first_outside(e, SELECT + kind.settings())
 }
 
 fn speed_after(code: u8, stored: u8) -> u8

@@ -1,4 +1,7 @@
 // Which bits of a control element a type names, beside those that all types have in byte 0.
+use crate::types::Kind;
+ghost use mathlib.Core.Path.{_≡_};
+ghost use Rattle.element.specs.Types.{layoutOf};
 
 // The flags in bytes 1 to 3, and the speed code in byte 3.
 pub struct Layout {
@@ -9,19 +12,16 @@ pub struct Layout {
 }
 
 impl Layout {
-    // IDENT; FAIL and ON; SPEED.
-    pub const FAN: Layout = Layout {
-        flags1: 0x80,
-        flags2: 0,
-        flags3: 0x60,
-        speed: 0x07,
-    };
-
-    // IDENT and FAIL.
-    pub const SENSOR: Layout = Layout {
-        flags1: 0xc0,
-        flags2: 0,
-        flags3: 0,
-        speed: 0,
-    };
+    pub fn of(kind: Kind) -> Layout
+        ensures { λ r. ⌜ r ≡ layoutOf kind ⌝ }
+    {
+        let named = bits::four_of(kind.settings());
+        let speed = kind.speed();
+        Layout {
+            flags1: named[1],
+            flags2: named[2],
+            flags3: named[3] - speed,
+            speed,
+        }
+    }
 }

@@ -2,7 +2,7 @@
 use crate::layout::Layout;
 use crate::types::Kind;
 ghost use mathlib.Core.Path.{_≡_};
-ghost use Rattle.element.specs.Layouts.{said, stored, formed};
+ghost use Rattle.element.specs.Layouts.{said, stored};
 ghost use Rattle.element.specs.Settings.{settingsOf, settingsBytes, settingsFormed};
 
 // PRDFAIL, DISABLED and SWAP, which all types have; the type's own flags, where bytes 1 to 3 of its control element have them; SPEED.
@@ -20,19 +20,13 @@ impl Settings {
     pub fn of(kind: Kind, e: [u8; 4]) -> Settings
         ensures { λ r. ⌜ r ≡ settingsOf kind e ⌝ }
     {
-        match kind {
-            Kind::Cooling => said(Layout::FAN, e),
-            Kind::Temperature | Kind::Voltage | Kind::Current => said(Layout::SENSOR, e),
-        }
+        said(Layout::of(kind), e)
     }
 
     pub fn bytes(self, kind: Kind) -> [u8; 4]
         ensures { λ r. ⌜ r ≡ settingsBytes kind self ⌝ }
     {
-        match kind {
-            Kind::Cooling => stored(Layout::FAN, self),
-            Kind::Temperature | Kind::Voltage | Kind::Current => stored(Layout::SENSOR, self),
-        }
+        stored(Layout::of(kind), self)
     }
 }
 
@@ -61,23 +55,10 @@ fn stored(layout: Layout, s: Settings) -> [u8; 4]
     ]
 }
 
-// The four bytes are settings that the type may have.
+// The four bytes are settings that the type may have: SPEED is not 0 where there is one.
 pub fn are_formed(kind: Kind, e: [u8; 4]) -> bool
     ensures { λ r. ⌜ r ≡ settingsFormed kind e ⌝ }
 {
-    match kind {
-        Kind::Cooling => formed(Layout::FAN, e),
-        Kind::Temperature | Kind::Voltage | Kind::Current => formed(Layout::SENSOR, e),
-    }
-}
-
-// SPEED is not 0 where there is one.
-fn formed(layout: Layout, e: [u8; 4]) -> bool
-    ensures { λ r. ⌜ r ≡ formed layout e ⌝ }
-{
-    (e[0] & 0x70 == e[0])
-        & (e[1] & layout.flags1 == e[1])
-        & (e[2] & layout.flags2 == e[2])
-        & (e[3] & (layout.flags3 | layout.speed) == e[3])
-        & ((layout.speed == 0) | (e[3] & layout.speed != 0))
+    let speed = kind.speed();
+    bits::are_within(e, kind.settings()) & ((speed == 0) | (e[3] & speed != 0))
 }

@@ -1,12 +1,19 @@
-// The element types that are served, and what their readings and nominals may be.
+// The element types that are served. What the rules of a type are is told here number by number; each function picks by the type.
 ghost use mathlib.Core.Path.{_≡_};
-ghost use Rattle.element.specs.Types.{codeOf, kindOf, served, readingAllowed, nominalAllowed};
+ghost use Rattle.element.specs.Types.{rulesOf, codeOf, kindOf, served, readingAllowed, nominalAllowed};
 
 pub enum Kind {
     Cooling,
     Temperature,
     Voltage,
     Current,
+}
+
+// How the low two thresholds stand to each other: in no order, low warning at least low critical, or low critical at least low warning.
+pub enum LowOrder {
+    Any,
+    WarningAbove,
+    CriticalAbove,
 }
 
 const COOLING: u8 = 0x03;
@@ -50,22 +57,141 @@ impl Kind {
         Kind::of(code).code() == code
     }
 
+    // The bits that settings have, as the number that four bytes say.
+    pub fn settings(self) -> u32
+        ensures { λ r. ⌜ r ≡ rulesOf self .masks .settings ⌝ }
+    {
+        match self {
+            Kind::Cooling => 0x70800067,
+            Kind::Temperature => 0x70c00000,
+            Kind::Voltage => 0x70c00000,
+            Kind::Current => 0x70c00000,
+        }
+    }
+
+    // Those of them that are SPEED, in the last byte.
+    pub fn speed(self) -> u8
+        ensures { λ r. ⌜ r ≡ rulesOf self .layout .speed ⌝ }
+    {
+        match self {
+            Kind::Cooling => 0x07,
+            Kind::Temperature => 0,
+            Kind::Voltage => 0,
+            Kind::Current => 0,
+        }
+    }
+
+    // The bits that the four bytes of a status element may have.
+    pub fn shown(self) -> u32
+        ensures { λ r. ⌜ r ≡ rulesOf self .masks .shown ⌝ }
+    {
+        match self {
+            Kind::Cooling => 0x7f87ff77,
+            Kind::Temperature => 0x7fc0ff0f,
+            Kind::Voltage => 0x7fcfffff,
+            Kind::Current => 0x7fcaffff,
+        }
+    }
+
+    // Those that the twelve bytes of an entry may have which the type lays out: the first four of them, the next, the last.
+    pub fn shown_first(self) -> u32
+        ensures { λ r. ⌜ r ≡ rulesOf self .masks .shownFirst ⌝ }
+    {
+        match self {
+            Kind::Cooling => 0x0107ff01,
+            Kind::Temperature => 0x0101ff01,
+            Kind::Voltage => 0x01010101,
+            Kind::Current => 0x01010101,
+        }
+    }
+
+    pub fn shown_next(self) -> u32
+        ensures { λ r. ⌜ r ≡ rulesOf self .masks .shownNext ⌝ }
+    {
+        match self {
+            Kind::Cooling => 0x01010700,
+            Kind::Temperature => 0x01010100,
+            Kind::Voltage => 0x0101ffff,
+            Kind::Current => 0xffff0000,
+        }
+    }
+
+    pub fn shown_last(self) -> u32
+        ensures { λ r. ⌜ r ≡ rulesOf self .masks .shownLast ⌝ }
+    {
+        match self {
+            Kind::Cooling => 0,
+            Kind::Temperature => 0,
+            Kind::Voltage => 0,
+            Kind::Current => 0,
+        }
+    }
+
+    // The bits that the four threshold bytes may have.
+    pub fn thresholds(self) -> u32
+        ensures { λ r. ⌜ r ≡ rulesOf self .masks .thresholds ⌝ }
+    {
+        match self {
+            Kind::Cooling => 0,
+            Kind::Temperature => 0xffffffff,
+            Kind::Voltage => 0xffffffff,
+            Kind::Current => 0xffff0000,
+        }
+    }
+
+    pub fn low_order(self) -> LowOrder
+        ensures { λ r. ⌜ r ≡ rulesOf self .lowOrder ⌝ }
+    {
+        match self {
+            Kind::Cooling => LowOrder::Any,
+            Kind::Temperature => LowOrder::WarningAbove,
+            Kind::Voltage => LowOrder::CriticalAbove,
+            Kind::Current => LowOrder::Any,
+        }
+    }
+
+    fn most_reading(self) -> u16
+        ensures { λ r. ⌜ r ≡ rulesOf self .mostReading ⌝ }
+    {
+        match self {
+            Kind::Cooling => 2047,
+            Kind::Temperature => 255,
+            Kind::Voltage => 65535,
+            Kind::Current => 65535,
+        }
+    }
+
+    fn least_nominal(self) -> u16
+        ensures { λ r. ⌜ r ≡ rulesOf self .leastNominal ⌝ }
+    {
+        match self {
+            Kind::Cooling => 0,
+            Kind::Temperature => 0,
+            Kind::Voltage => 1,
+            Kind::Current => 1,
+        }
+    }
+
+    fn most_nominal(self) -> u16
+        ensures { λ r. ⌜ r ≡ rulesOf self .mostNominal ⌝ }
+    {
+        match self {
+            Kind::Cooling => 0,
+            Kind::Temperature => 0,
+            Kind::Voltage => 32767,
+            Kind::Current => 32767,
+        }
+    }
+
     pub fn may_read(self, reading: u16) -> bool
         ensures { λ r. ⌜ r ≡ readingAllowed self reading ⌝ }
     {
-        match self {
-            Kind::Cooling => reading <= 2047,
-            Kind::Temperature => reading <= 255,
-            Kind::Voltage | Kind::Current => true,
-        }
+        reading <= self.most_reading()
     }
 
     pub fn may_have_nominal(self, nominal: u16) -> bool
         ensures { λ r. ⌜ r ≡ nominalAllowed self nominal ⌝ }
     {
-        match self {
-            Kind::Cooling | Kind::Temperature => nominal == 0,
-            Kind::Voltage | Kind::Current => (1 <= nominal) & (nominal <= 32767),
-        }
+        (self.least_nominal() <= nominal) & (nominal <= self.most_nominal())
     }
 }

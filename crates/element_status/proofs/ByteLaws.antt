@@ -1,18 +1,23 @@
--- A byte that is one field, and byte 0 of a status element. Assumes nothing.
+-- Byte 0 of a status element, flags side by side in one byte, and entries by the places of their fields. Assumes nothing.
 use mathlib.Core.Path.{_≡_, refl, ap, _∙_}
-use mathlib.Core.Bool.{Bool, true, false}
-use mathlib.Core.List.{[], _∷_}
-use Prim.Native.Nat.{ℕ, _+_, _*_, _/_, _%_}
+use mathlib.Core.Bool.{Bool, true, false, _&&_}
+use mathlib.Core.List.{List, [], _∷_}
+use Prim.Native.Nat.{ℕ, _+_, _*_, _/_, _%_, _<_}
 use native.Mathlib.Nat.{mod-eq-of-lt, add-assoc}
 use native.Mathlib.Omega.{arith}
-use mir.Val.{Fits}
-use mir.Syntax.{w8}
+use lib.Dec.{leb}
+use lib.ListN.{getD}
 use Rattle.bits.specs.Bits.{num, bitOf, nibble, join}
 use Rattle.bits.proofs.Halves.{nibble-small}
-use Rattle.element.specs.Status.{firstByte}
-
-pub whole-byte : (n : ℕ) → Fits w8 n → n % 256 ≡ n
-whole-byte n h = omega arith
+use Rattle.bits.specs.Numbers.{bytes}
+use Rattle.element.specs.declared.types.Kind.{Kind}
+use Rattle.element.specs.StatusLayout.{StatusLayout, mostOf, shiftsOf, puts, fit}
+use Rattle.element.specs.Rules.{Masks}
+use Rattle.element.specs.Types.{rulesOf}
+use Rattle.element.specs.Status.{firstByte, bytesIn, mostShown, mostOverall}
+use Rattle.element.proofs.StatusBothWays.{Lays}
+use Rattle.element.proofs.TypeShapes.{bytes-put, fits-words, overall-words}
+use Rattle.element_status.specs.Shapes.{wordsWithin}
 
 first-made : (p d w : Bool) (n : ℕ) → join (nibble false p d w) n ≡ firstByte (n ∷ num p ∷ num d ∷ num w ∷ [])
 first-made true true true n = refl
@@ -62,3 +67,18 @@ limits-made f a b c d {l} {x} p q =
     let h : 16 * (f / 64 % 4 * 4 % 16) ≡ bitOf 7 f % 2 * 128 + bitOf 6 f % 2 * 64 = two-high (f / 64) ∙ ap (λ (z : ℕ). z % 2 % 2 * 128 + bitOf 6 f % 2 * 64) (halved f) in
     let m : l % 16 ≡ n = ap (λ (z : ℕ). z % 16) p ∙ mod-eq-of-lt (nibble-small a b c d) ∙ nibble-is a b c d in
     q ∙ (λ i. h i + m i) ∙ add-assoc (bitOf 7 f % 2 * 128) (bitOf 6 f % 2 * 64) n
+
+-- the four bytes by the places of the fields
+pub shaped-bytes : (l : StatusLayout) → Lays l → (x : List ℕ)
+    → let e : List ℕ = bytes 4 (puts (shiftsOf l) (mostOf l) x 4) in firstByte x ∷ getD e 1 0 ∷ getD e 2 0 ∷ getD e 3 0 ∷ [] ≡ bytesIn l x
+shaped-bytes l h x = ap (λ (e : List ℕ). firstByte x ∷ getD e 1 0 ∷ getD e 2 0 ∷ getD e 3 0 ∷ []) (bytes-put l h x)
+
+-- and what an entry may have, four bytes by four
+module _ (x : List ℕ) (h : (i : ℕ) → i < 16 → getD x i 0 < 256) where
+  pub words-fit : (k : Kind) → let m : Masks = rulesOf k .masks in wordsWithin x 0x0f010101 (m .shownFirst) (m .shownNext) (m .shownLast) && leb (getD x 0 0) 8 ≡ fit (mostShown k) x 16
+  unfolding wordsWithin
+  words-fit k = fits-words k x h
+
+  pub words-alone : wordsWithin x 0x0f000000 0 0 0 && leb (getD x 0 0) 8 ≡ fit mostOverall x 16
+  unfolding wordsWithin
+  words-alone = overall-words x h

@@ -10,8 +10,7 @@ use mir.Syntax.{w8}
 use Rattle.bits.specs.Bits.{bit}
 use Rattle.bits.proofs.Logic.{byByte}
 use Rattle.element.specs.declared.types.Kind.the-variants.{Cooling}
-use Rattle.element.specs.Cooling.{isOn}
-use Rattle.element.specs.Types.{layoutOf}
+use Rattle.element.specs.Types.{isOn, layoutOf}
 use Rattle.element.specs.Settings.{settingsOf}
 
 pub on-is : (e : List ℕ) → Fits w8 (getD e 3 0) → eqb (bitAnd (getD e 3 0 / 32) 1) 1 ≡ isOn (settingsOf Cooling e)

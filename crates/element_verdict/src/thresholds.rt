@@ -1,7 +1,8 @@
 // The four threshold bytes of an element: high critical, high warning, low warning, low critical.
 use element::types::Kind;
+use element::types::LowOrder;
 ghost use mathlib.Core.Path.{_≡_};
-ghost use Rattle.element.specs.Thresholds.{byteTaken, taken, atLeast};
+ghost use Rattle.element.specs.Thresholds.{byteTaken, taken, atLeast, lowOrdered};
 ghost use Rattle.element.specs.Types.{had, ordered};
 
 fn byte_taken(own: u8, overall: u8, stored: u8) -> u8
@@ -32,11 +33,7 @@ pub fn taken(own: [u8; 4], overall: [u8; 4], stored: [u8; 4]) -> [u8; 4]
 pub fn are_had(kind: Kind, t: [u8; 4]) -> bool
     ensures { λ r. ⌜ r ≡ had kind t ⌝ }
 {
-    match kind {
-        Kind::Cooling => (t[0] == 0) & (t[1] == 0) & (t[2] == 0) & (t[3] == 0),
-        Kind::Temperature | Kind::Voltage => true,
-        Kind::Current => (t[2] == 0) & (t[3] == 0),
-    }
+    bits::are_within(t, kind.thresholds())
 }
 
 // Tested only where both bytes are nonzero.
@@ -46,12 +43,18 @@ fn at_least(a: u8, b: u8) -> bool
     (a == 0) | (b == 0) | (b <= a)
 }
 
+fn low_ordered(order: LowOrder, t: [u8; 4]) -> bool
+    ensures { λ r. ⌜ r ≡ lowOrdered order t ⌝ }
+{
+    match order {
+        LowOrder::Any => true,
+        LowOrder::WarningAbove => at_least(t[2], t[3]),
+        LowOrder::CriticalAbove => at_least(t[3], t[2]),
+    }
+}
+
 pub fn are_ordered(kind: Kind, t: [u8; 4]) -> bool
     ensures { λ r. ⌜ r ≡ ordered kind t ⌝ }
 {
-    match kind {
-        Kind::Cooling | Kind::Current => at_least(t[0], t[1]),
-        Kind::Temperature => at_least(t[0], t[1]) & at_least(t[2], t[3]),
-        Kind::Voltage => at_least(t[0], t[1]) & at_least(t[3], t[2]),
-    }
+    at_least(t[0], t[1]) & low_ordered(kind.low_order(), t)
 }

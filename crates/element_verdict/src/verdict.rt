@@ -1,25 +1,11 @@
 // What follows from a reading: the status code and the four limit bits.
-use element::types::Kind;
 use element::verdict::Verdict;
 ghost use mathlib.Core.Path.{_≡_};
 ghost use Prim.Native.Nat.{_+_, _%_};
 ghost use Rattle.element.specs.Verdict.{codeFor, unlimited, judged, above, below, over, under, fanVerdict, temperatureVerdict, voltageVerdict, currentVerdict};
 ghost use Rattle.element.specs.declared.types.Kind.the-variants.{Cooling};
-ghost use Rattle.element.specs.Cooling.{isOn};
+ghost use Rattle.element.specs.Types.{isOn};
 ghost use Rattle.element.specs.Settings.{settingsOf};
-ghost use Rattle.element.specs.Types.{verdictOf};
-
-// Of an element with these stored settings.
-pub fn of(kind: Kind, stored: [u8; 4], reading: u16, nominal: u16, t: [u8; 4]) -> Verdict
-    ensures { λ r. ⌜ r ≡ verdictOf kind (settingsOf kind stored) reading nominal t ⌝ }
-{
-    match kind {
-        Kind::Cooling => of_fan(stored, reading),
-        Kind::Temperature => of_temperature(reading, t),
-        Kind::Voltage => of_voltage(reading, nominal, t),
-        Kind::Current => of_current(reading, nominal, t),
-    }
-}
 
 fn code_for(critical: bool, warning: bool) -> u8
     ensures { λ r. ⌜ r ≡ codeFor critical warning ⌝ }
@@ -93,7 +79,7 @@ fn under(reading: u16, nominal: u16, limit: u8) -> bool
 }
 
 // Byte 3 bit 5 is ON.
-fn of_fan(stored: [u8; 4], reading: u16) -> Verdict
+pub fn of_fan(stored: [u8; 4], reading: u16) -> Verdict
     ensures { λ r. ⌜ r ≡ fanVerdict (isOn (settingsOf Cooling stored)) reading ⌝ }
 {
     let on = stored[3] >> 5 & 1 == 1;
@@ -101,7 +87,7 @@ fn of_fan(stored: [u8; 4], reading: u16) -> Verdict
 }
 
 // Byte 0 is no reading, and no temperature.
-fn of_temperature(reading: u16, t: [u8; 4]) -> Verdict
+pub fn of_temperature(reading: u16, t: [u8; 4]) -> Verdict
     ensures { λ r. ⌜ r ≡ temperatureVerdict reading t ⌝ }
 {
     if reading == 0 {
@@ -116,7 +102,7 @@ fn of_temperature(reading: u16, t: [u8; 4]) -> Verdict
     }
 }
 
-fn of_voltage(reading: u16, nominal: u16, t: [u8; 4]) -> Verdict
+pub fn of_voltage(reading: u16, nominal: u16, t: [u8; 4]) -> Verdict
     ensures { λ r. ⌜ r ≡ voltageVerdict reading nominal t ⌝ }
 {
     judged(
@@ -127,7 +113,7 @@ fn of_voltage(reading: u16, nominal: u16, t: [u8; 4]) -> Verdict
     )
 }
 
-fn of_current(reading: u16, nominal: u16, t: [u8; 4]) -> Verdict
+pub fn of_current(reading: u16, nominal: u16, t: [u8; 4]) -> Verdict
     ensures { λ r. ⌜ r ≡ currentVerdict reading nominal t ⌝ }
 {
     judged(

@@ -94,5 +94,8 @@ module _ (s : List ℕ) (j : ℕ) {r : Run} (q : r ≡ runAt s j) where
   unfolding kindAt
   run-kind = ap (λ (x : Run). x .kind) q
 
+  pub run-small : r .number ≤ mostTypes
+  run-small = rw q (type-bound s j)
+
   pub run-on : r ≡ carried s (j + 1)
   run-on = q ∙ sym (ap (carried s) (add-one j))

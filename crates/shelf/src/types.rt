@@ -52,10 +52,11 @@ pub fn all_elements(shelf: &[u8]) -> u16
     sum
 }
 
-// A type with its elements: those from `before` up to `end`.
+// A type with its elements: those from `before` up to `end`. Its number is wide: eight bytes the compiler would pack into one register and
+// take apart again at each turn of a loop.
 pub struct Run {
     pub kind: Kind,
-    pub number: u16,
+    pub number: u32,
     pub before: u16,
     pub end: u16,
 }
@@ -68,7 +69,7 @@ fn run_with(shelf: &[u8], number: u16, before: u16, end: u16) -> Run
     let kind = Kind::of(code_of(shelf, number));
     Run {
         kind,
-        number,
+        number: number as u32,
         before,
         end,
     }
@@ -114,5 +115,5 @@ pub fn run_to(shelf: &[u8], run: Run, j: u16) -> Run
     if j < run.end {
         return run;
     }
-    run_from(shelf, run.number, run.before, j)
+    run_from(shelf, run.number as u16, run.before, j)
 }

@@ -14,12 +14,11 @@ use Rattle.bits.specs.Numbers.{big}
 use Rattle.bits.proofs.Logic.{by-case, below-cut}
 use Rattle.shelf.specs.Limits.{mostInType, mostText, typePlace, textPlace, elementPlace}
 use Rattle.element.specs.declared.types.Kind.{Kind}
-use Rattle.element.specs.Types.{served, readingAllowed, nominalAllowed}
-use Rattle.element.specs.Settings.{settingsFormed}
-use Rattle.element.specs.Types.{had, ordered}
+use Rattle.element.specs.Types.{served}
+use Rattle.element.specs.Settings.{fieldsFormed}
 use Rattle.shelf.specs.Types.{typeCode, typeCount, textLength, kindAt}
 use Rattle.shelf.specs.Elements.{settingsAt, thresholdsAt, readingAt, nominalAt, spareAt}
-use Rattle.shelf_formed.specs.Formed.{textByteFormed, textFormed, typeFormed, zeros, spareClear, fieldsFormed, elementFormed}
+use Rattle.shelf_formed.specs.Formed.{textByteFormed, textFormed, typeFormed, zeros, spareClear, elementFormed}
 
 third-holds : (a b c : Bool) → (a && b) && c ≡ ((a && true) && b) && c
 third-holds true b c = refl
@@ -65,11 +64,6 @@ pub judged : (s : List ℕ) (j : ℕ) {k : Kind} {e t : List ℕ} {r n : ℕ} {a
 unfolding elementFormed
 judged s j hk ha h he ht hr hn hb =
     rw (← ha, h, hb, hk, he, ht, hr, hn) (sym (and-true (fieldsFormed (kindAt s j) (settingsAt s j) (thresholdsAt s j) (readingAt s j) (nominalAt s j))))
-
-pub all-formed : (k : Kind) (e t : List ℕ) (r n : ℕ) {a b c d f : Bool}
-    → a ≡ settingsFormed k e → b ≡ had k t → c ≡ ordered k t → d ≡ readingAllowed k r → f ≡ nominalAllowed k n
-    → (((a && b) && c) && d) && f ≡ fieldsFormed k e t r n
-all-formed k e t r n ha hb hc hd hf = rw (ha, hb, hc, hd, hf)
 
 -- four bytes that say 0 are zero
 pub zeros-said : (a b c d : ℕ) → eqb (big (a ∷ b ∷ c ∷ d ∷ [])) 0 ≡ zeros (a ∷ b ∷ c ∷ d ∷ [])

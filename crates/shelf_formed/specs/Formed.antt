@@ -7,10 +7,8 @@ use lib.Dec.{eqb, leb, ltb}
 use lib.ListN.{length, getD}
 use Rattle.bits.specs.Choice.{pick, allBelow}
 use Rattle.bits.specs.Bits.{printable}
-use Rattle.element.specs.declared.types.Kind.{Kind}
-use Rattle.element.specs.Types.{served, readingAllowed, nominalAllowed}
-use Rattle.element.specs.Settings.{settingsFormed}
-use Rattle.element.specs.Types.{had, ordered}
+use Rattle.element.specs.Types.{served}
+use Rattle.element.specs.Settings.{fieldsFormed}
 use Rattle.shelf_formed.specs.declared.Opened.{Opened}
 use Rattle.shelf_formed.specs.declared.Opened.the-variants.{Shelf, NotWellFormed}
 use Rattle.shelf.specs.Limits.{mostTypes, mostElements, mostInType, mostText, typeSize, typePlace, textPlace, elementPlace, HasTypes}
@@ -58,10 +56,6 @@ typesFormed s n = allBelow (slotFormed s n) mostTypes
 
 unfoldable pub spareClear : List ℕ → ℕ → Bool
 spareClear s j = zeros (spareAt s j)
-
--- settings, thresholds, reading and nominal that a type may have
-abbrev pub fieldsFormed : Kind → List ℕ → List ℕ → ℕ → ℕ → Bool
-fieldsFormed k e t r n = (((settingsFormed k e && had k t) && ordered k t) && readingAllowed k r) && nominalAllowed k n
 
 -- what is stored of element j is what its type may have, and its spare bytes are zero
 unfoldable pub elementFormed : List ℕ → ℕ → Bool

@@ -1,7 +1,5 @@
 // Whether a block is a well-formed shelf, or the front of one a configuration.
-use element::settings;
 use element::types::Kind;
-use element_verdict::thresholds;
 use shelf::elements;
 use shelf::limits;
 use shelf::types;
@@ -10,10 +8,9 @@ ghost use mathlib.Core.Bool.{true};
 ghost use Prim.Native.Nat.{_≤_};
 ghost use lib.ListN.{length};
 ghost use Rattle.bits.specs.Choice.{allBelow};
-ghost use Rattle.element.specs.declared.types.Kind.the-variants.{Cooling, Temperature, Voltage, Current};
 ghost use Rattle.shelf.specs.Limits.{mostText, elementPlace, HasTypes, HasText, HasElement};
 ghost use Rattle.shelf.specs.Types.{textLength, kindAt};
-ghost use Rattle.shelf_formed.specs.Formed.{headFormed, textByteFormed, textFormed, typeFormed, typeEmpty, slotFormed, typesFormed, spareClear, fieldsFormed, elementFormed, elementsFormed, fronted, opened, configurationOpened};
+ghost use Rattle.shelf_formed.specs.Formed.{headFormed, textByteFormed, textFormed, typeFormed, typeEmpty, slotFormed, typesFormed, spareClear, elementFormed, elementsFormed, fronted, opened, configurationOpened};
 
 // How many types and elements a well-formed shelf has.
 pub struct Sizes {
@@ -193,53 +190,7 @@ fn element_formed(shelf: &[u8], kind: Kind, j: u16) -> bool
     let t = elements::thresholds_at(shelf, j);
     let reading = elements::reading_at(shelf, j);
     let nominal = elements::nominal_at(shelf, j);
-    fields_formed(kind, e, t, reading, nominal)
-}
-
-// One match on the type for all fields. Each arm is a function of its own, so that the compiler makes each of its type's rules alone.
-fn fields_formed(kind: Kind, e: [u8; 4], t: [u8; 4], reading: u16, nominal: u16) -> bool
-    ensures { λ r. ⌜ r ≡ fieldsFormed kind e t reading nominal ⌝ }
-{
-    match kind {
-        Kind::Cooling => fan_formed(e, t, reading, nominal),
-        Kind::Temperature => temperature_formed(e, t, reading, nominal),
-        Kind::Voltage => voltage_formed(e, t, reading, nominal),
-        Kind::Current => current_formed(e, t, reading, nominal),
-    }
-}
-
-fn fan_formed(e: [u8; 4], t: [u8; 4], reading: u16, nominal: u16) -> bool
-    ensures { λ r. ⌜ r ≡ fieldsFormed Cooling e t reading nominal ⌝ }
-{
-    formed_as(Kind::Cooling, e, t, reading, nominal)
-}
-
-fn temperature_formed(e: [u8; 4], t: [u8; 4], reading: u16, nominal: u16) -> bool
-    ensures { λ r. ⌜ r ≡ fieldsFormed Temperature e t reading nominal ⌝ }
-{
-    formed_as(Kind::Temperature, e, t, reading, nominal)
-}
-
-fn voltage_formed(e: [u8; 4], t: [u8; 4], reading: u16, nominal: u16) -> bool
-    ensures { λ r. ⌜ r ≡ fieldsFormed Voltage e t reading nominal ⌝ }
-{
-    formed_as(Kind::Voltage, e, t, reading, nominal)
-}
-
-fn current_formed(e: [u8; 4], t: [u8; 4], reading: u16, nominal: u16) -> bool
-    ensures { λ r. ⌜ r ≡ fieldsFormed Current e t reading nominal ⌝ }
-{
-    formed_as(Kind::Current, e, t, reading, nominal)
-}
-
-fn formed_as(kind: Kind, e: [u8; 4], t: [u8; 4], reading: u16, nominal: u16) -> bool
-    ensures { λ r. ⌜ r ≡ fieldsFormed kind e t reading nominal ⌝ }
-{
-    settings::are_formed(kind, e)
-        & thresholds::are_had(kind, t)
-        & thresholds::are_ordered(kind, t)
-        & kind.may_read(reading)
-        & kind.may_have_nominal(nominal)
+    element_status::types::are_formed(kind, e, t, reading, nominal)
 }
 
 // The last four bytes of an element are zero.

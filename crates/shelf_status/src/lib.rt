@@ -1,8 +1,5 @@
 // What a shelf shows: each element by itself, each type by its worst element, and the page by all.
-use element::settings::Settings;
 use element::types::Kind;
-use element::verdict::Verdict;
-use element_verdict::verdict;
 use shelf::elements;
 use shelf::types;
 ghost use mathlib.Core.Path.{_≡_};
@@ -12,7 +9,7 @@ ghost use lib.ListN.{length};
 ghost use Rattle.element.specs.Status.{statusBytes};
 ghost use Rattle.shelf.specs.Limits.{elementPlace, HasElement};
 ghost use Rattle.shelf_formed.specs.Formed.{wellFormed};
-ghost use Rattle.shelf_status.specs.ShelfStatus.{verdictAt, shownAt, codeAt, worse, worst, pageBits, bitsByte};
+ghost use Rattle.shelf_status.specs.ShelfStatus.{shownAt, codeAt, worse, worst, pageBits, bitsByte};
 
 // The two bits of a status page that tell of all its elements.
 pub struct PageBits {
@@ -53,15 +50,15 @@ impl PageBits {
     }
 }
 
-// What follows from what is stored of element j.
-fn verdict_at(shelf: &[u8], kind: Kind, j: u16) -> Verdict
+// The status element of element j.
+pub fn status_at(shelf: &[u8], kind: Kind, j: u16) -> [u8; 4]
     requires { ⌜ HasElement (now shelf) j ⌝ }
-    ensures { λ r. ⌜ r ≡ verdictAt (now (shelf .entry)) kind j ⌝ }
+    ensures { λ r. ⌜ r ≡ statusBytes kind (shownAt (now (shelf .entry)) kind j) ⌝ }
 {
     let stored = elements::settings_at(shelf, j);
     let reading = elements::reading_at(shelf, j);
     let nominal = elements::nominal_at(shelf, j);
-    verdict::of(
+    element_status::types::status(
         kind,
         stored,
         reading,
@@ -70,23 +67,13 @@ fn verdict_at(shelf: &[u8], kind: Kind, j: u16) -> Verdict
     )
 }
 
-// The status element of element j.
-pub fn status_at(shelf: &[u8], kind: Kind, j: u16) -> [u8; 4]
-    requires { ⌜ HasElement (now shelf) j ⌝ }
-    ensures { λ r. ⌜ r ≡ statusBytes kind (shownAt (now (shelf .entry)) kind j) ⌝ }
-{
-    let set = Settings::of(kind, elements::settings_at(shelf, j));
-    let verdict = verdict_at(shelf, kind, j);
-    element_status::status(kind, set, verdict, elements::reading_at(shelf, j))
-}
-
-// Without what else the element shows.
+// Its status code.
 fn code_at(shelf: &[u8], kind: Kind, j: u16) -> u8
     requires { ⌜ HasElement (now shelf) j ⌝ }
     ensures { λ r. ⌜ r ≡ codeAt (now (shelf .entry)) kind j ⌝ }
 {
-    let verdict = verdict_at(shelf, kind, j);
-    verdict.code
+    let e = status_at(shelf, kind, j);
+    e[0] % 16
 }
 
 fn worse(a: u8, b: u8) -> u8

@@ -70,7 +70,7 @@ fn slot_shown(page: &[u8], at: Slot, i: u16) -> [u8; element_status::ENTRY]
     if at.overall {
         element_status::code_alone(e[0])
     } else {
-        element_status::entry(kind, e)
+        element_status::types::entry(kind, e)
     }
 }
 

@@ -25,7 +25,7 @@ pub fn slot_bytes(at: Slot, x: [u8; element_status::ENTRY]) -> [u8; 4]
     if at.overall {
         [x[0], 0, 0, 0]
     } else {
-        element_status::bytes(kind, x)
+        element_status::types::bytes(kind, x)
     }
 }
 

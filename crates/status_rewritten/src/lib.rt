@@ -19,24 +19,18 @@ ghost use Rattle.status_page.specs.Page.{slotRow};
 ghost use Rattle.status_record.specs.Entries.{entryPlace, HasEntry, entryAt};
 ghost use Rattle.status_rewritten.specs.Rewritten.{slotMost, entriesFormed, entriesTested, recordTested, pageAgain};
 
-// The most that each byte of a slot's entry may be.
-fn slot_most(at: Slot) -> [u8; element_status::ENTRY]
-    ensures { λ r. ⌜ r ≡ slotMost at ⌝ }
-{
-    let kind = at.kind;
-    if at.overall {
-        element_status::MOST_OVERALL
-    } else {
-        element_status::most(kind)
-    }
-}
-
 // No field of entry i is out of range, or set where its slot shows none.
 fn entry_formed(fields: &[u8], at: Slot, i: u16) -> bool
     requires { ⌜ HasEntry (now fields) i ⌝ }
     ensures { λ r. ⌜ r ≡ fit (slotMost at) (entryAt (now (fields .entry)) i) 16 ⌝ }
 {
-    element_status::fits(slot_most(at), status_record::entry_at(fields, i))
+    let kind = at.kind;
+    let x = status_record::entry_at(fields, i);
+    if at.overall {
+        element_status::overall_fits(x)
+    } else {
+        element_status::fits(kind, x)
+    }
 }
 
 fn entries_formed(configuration: &[u8], fields: &[u8], n: u16) -> bool

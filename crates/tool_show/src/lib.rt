@@ -67,21 +67,12 @@ fn show_type(shelf: &[u8], t: u16, elements: u16)
     let code = types::code_of(shelf, t);
     let length = types::text_length(shelf, t) as u16;
     tool_print::labelled(b"type ", t as u64);
-    say_kind(Kind::of(code));
+    words::say_kind(Kind::of(code));
     tool_print::hex(code);
     tool_print::quoted_at(b"h) \"", shelf, limits::text_place(t), length);
     tool_print::count(types::elements_of(shelf, t) as u64, b" element");
     tool_print::text(b"\n");
     show_elements(shelf, t, elements);
-}
-
-fn say_kind(kind: Kind) {
-    match kind {
-        Kind::Cooling => tool_print::text(b": Cooling ("),
-        Kind::Temperature => tool_print::text(b": Temperature Sensor ("),
-        Kind::Voltage => tool_print::text(b": Voltage Sensor ("),
-        Kind::Current => tool_print::text(b": Current Sensor ("),
-    }
 }
 
 // Those of n elements that are of type t.
@@ -94,7 +85,7 @@ fn show_elements(shelf: &[u8], t: u16, n: u16)
         let here = types::run_to(shelf, run, j);
         run = here;
         let kind = here.kind;
-        if here.number == t {
+        if here.number == t as u32 {
             words::show(shelf, kind, j);
         }
         j += 1;

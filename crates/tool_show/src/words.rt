@@ -1,14 +1,24 @@
-// One element in a line: its code, its reading, the flags and limit bits that are set, and its thresholds.
+// The types by name, and one element in a line: its code, its reading, the flags and limit bits that are set, and its thresholds.
 //
 // What an element shows is read off the entry of its status element, so no rule of showing stands here.
 use element::types::Kind;
 use shelf::elements;
 ghost use Rattle.shelf.specs.Limits.{HasElement};
 
+// The name of a type.
+pub fn say_kind(kind: Kind) {
+    match kind {
+        Kind::Cooling => tool_print::text(b": Cooling ("),
+        Kind::Temperature => tool_print::text(b": Temperature Sensor ("),
+        Kind::Voltage => tool_print::text(b": Voltage Sensor ("),
+        Kind::Current => tool_print::text(b": Current Sensor ("),
+    }
+}
+
 pub fn show(shelf: &[u8], kind: Kind, j: u16)
     requires { ⌜ HasElement (now shelf) j ⌝ }
 {
-    let x = element_status::entry(kind, shelf_status::status_at(shelf, kind, j));
+    let x = element_status::types::entry(kind, shelf_status::status_at(shelf, kind, j));
     let nominal = elements::nominal_at(shelf, j);
     let t = elements::thresholds_at(shelf, j);
     tool_print::labelled(b"  element ", j as u64);

@@ -24,8 +24,8 @@ reading-at-requires c κs = search needs
 nominal-at-requires : tie.Need-nominal-at-requires
 nominal-at-requires c κs = search needs
 
-fields-formed-requires : tie.Need-fields-formed-requires
-fields-formed-requires c κs = search needs
+are-formed-requires : tie.Need-are-formed-requires
+are-formed-requires c κs = search needs
 
 returns-2 : tie.Need-returns-2
 returns-2 c =
@@ -33,7 +33,7 @@ returns-2 c =
     judged (now (q .args .shelf)) (q .args .j) (q .pre .1) (c .before .before .before .before .before .before .spare-clear .ensures)
     (not-false _ (c .before .before .before .before .before .if1 .left)) (c .before .before .before .before .settings-at .ensures)
     (c .before .before .before .thresholds-at .ensures) (c .before .before .reading-at .ensures) (c .before .nominal-at .ensures)
-    (c .fields-formed .ensures)
+    (c .are-formed .ensures)
 
 pub element-formed-spec : {M : Type 1} → statement M
 element-formed-spec =
@@ -45,5 +45,5 @@ element-formed-spec =
     thresholds-at-requires
     reading-at-requires
     nominal-at-requires
-    fields-formed-requires
+    are-formed-requires
     returns-2)

@@ -1,17 +1,32 @@
 -- `shelf_status::code_at` meets its contract. Assumes nothing.
-use mathlib.Core.Path.{ap}
-use Rattle.element.specs.declared.verdict.Verdict.{Verdict}
-use Rattle.shelf_status.specs.ShelfStatus.{codeAt}
+use mathlib.Core.Path.{ap, _∙_}
+use mathlib.Core.List.{List}
+use Prim.Native.Nat.{ℕ, _%_}
+use lib.ListN.{getD}
+use denote.Ref.{now}
+use Rattle.element.specs.Settings.{settingsOf}
+use Rattle.element.proofs.TypeStatus.{code-shown}
+use Rattle.shelf.specs.Elements.{settingsAt, thresholdsAt, readingAt, nominalAt}
+use Rattle.shelf_status.specs.ShelfStatus.{verdictAt, codeAt, shownAt}
 use borrow.Author.Needs.{needs}
 use Rattle.shelf_status.proofs.code_at.Statement.{statement}
 use Rattle.shelf_status.proofs.code_at.Tie as tie
 
-verdict-at-requires : tie.Need-verdict-at-requires
-verdict-at-requires c κs = search needs
+status-at-requires : tie.Need-status-at-requires
+status-at-requires c κs = search needs
+
+array-read-result : tie.Need-array-read-result
+array-read-result c = search needs
 
 returns : tie.Need-returns
-unfolding codeAt
-returns c = ap (λ (v : Verdict). v .code) (c .verdict-at .ensures)
+unfolding codeAt verdictAt shownAt
+returns c =
+    let a = c .before .before .args in
+    let s = now (a .shelf) in
+    let k = a .kind in
+    let j = a .j in
+    ap (λ (e : List ℕ). getD e 0 0 % 16) (c .status-at .ensures)
+    ∙ code-shown k (settingsOf k (settingsAt s j)) (readingAt s j) (nominalAt s j) (thresholdsAt s j)
 
 pub code-at-spec : {M : Type 1} → statement M
-code-at-spec = tie.close (tie.spec verdict-at-requires returns)
+code-at-spec = tie.close (tie.spec status-at-requires array-read-result returns)

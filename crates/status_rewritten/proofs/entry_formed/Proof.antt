@@ -1,20 +1,45 @@
 -- `status_rewritten::entry_formed` meets its contract. Assumes nothing.
-use mathlib.Core.Path.{_∙_}
+use mathlib.Core.Path.{sym, ap, _∙_}
+use mathlib.Core.List.{List}
+use Prim.Native.Nat.{ℕ}
+use denote.Ref.{now}
+use Rattle.bits.proofs.Logic.{pick-yes, pick-no}
+use Rattle.element.specs.StatusLayout.{fit}
+use Rattle.element.specs.Status.{mostShown, mostOverall}
+use Rattle.status_record.specs.Entries.{entryAt}
 use borrow.Author.Needs.{needs}
 use Rattle.status_rewritten.proofs.entry_formed.Statement.{statement}
 use Rattle.status_rewritten.proofs.entry_formed.Tie as tie
 
-slot-most-requires : tie.Need-slot-most-requires
-slot-most-requires c κs = search needs
-
 entry-at-requires : tie.Need-entry-at-requires
 entry-at-requires c κs = search needs
+
+overall-fits-requires : tie.Need-overall-fits-requires
+overall-fits-requires c κs = search needs
 
 fits-requires : tie.Need-fits-requires
 fits-requires c κs = search needs
 
 returns : tie.Need-returns
-returns c = c .fits2 .ensures ∙ rw (c .before .before .slot-most .ensures, c .before .entry-at .ensures)
+returns c =
+    let s = c .before .before .before .before .args in
+    let o = s .at .overall in
+    let k = s .at .kind in
+    let x = entryAt (now (s .fields)) (s .i) in
+    c .overall-fits .ensures
+    ∙ ap (λ (v : List ℕ). fit mostOverall v 16) (c .before .before .entry-at .ensures)
+    ∙ ap (λ (v : List ℕ). fit v x 16) (sym (pick-yes o mostOverall (mostShown k) (c .before .if1 .taken)))
+
+returns-2 : tie.Need-returns-2
+returns-2 c =
+    let s = c .before .before .before .before .args in
+    let o = s .at .overall in
+    let k = s .at .kind in
+    let x = entryAt (now (s .fields)) (s .i) in
+    c .fits2 .ensures
+    ∙ ap (λ (v : List ℕ). fit (mostShown k) v 16) (c .before .before .entry-at .ensures)
+    ∙ ap (λ (v : List ℕ). fit v x 16) (sym (pick-no o mostOverall (mostShown k) (c .before .if1 .left)))
 
 pub entry-formed-spec : {M : Type 1} → statement M
-entry-formed-spec = tie.close (tie.spec slot-most-requires entry-at-requires fits-requires returns)
+entry-formed-spec =
+    tie.close (tie.spec entry-at-requires overall-fits-requires fits-requires returns returns-2)

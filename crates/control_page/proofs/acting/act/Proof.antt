@@ -3,7 +3,7 @@ use mathlib.Core.Path.{_≡_, refl}
 use Prim.Native.Nat.{_-_, _<_, _≤_}
 use native.Mathlib.Omega.{arith}
 use denote.Ref.{now}
-use borrow.Author.Needs.{needs}
+use Rattle.shelf.proofs.TypeRuns.{run-small}
 use Rattle.shelf.specs.Types.{carried, elementsOf}
 use Rattle.shelf_formed.proofs.ElementPut.{length-formed}
 use Rattle.page.proofs.SlotWalk.{places-run, run-there, run-next}
@@ -38,7 +38,7 @@ run-to-requires c κs =
     )
 
 places-in-requires : tie.Need-places-in-requires Inv-loop μ-loop
-places-in-requires c κs = search needs
+places-in-requires c κs = let l = c .before .before .before .before .loop in run-small (l .shelf) (l .j) (c .before .run-to .ensures)
 
 act-on-requires : tie.Need-act-on-requires Inv-loop μ-loop
 act-on-requires c κs =

@@ -1,30 +1,44 @@
 -- `element::settings::are_formed` meets its contract. Assumes nothing.
-use mathlib.Core.Path.{_≡_}
-use mathlib.Core.List.{[], _∷_}
+use mathlib.Core.Path.{ap, _∙_}
+use mathlib.Core.Bool.{not, _&&_, _||_}
+use Prim.Native.Nat.{ℕ}
+use lib.Bits.{bitAnd}
+use lib.Dec.{eqb}
+use lib.ListN.{getD}
+use Rattle.bits.specs.Bits.{within}
+use Rattle.bits.specs.Places.{fourAt}
+use Rattle.bits.specs.Numbers.{big}
 use Rattle.element.specs.Types.{layoutOf}
 use Rattle.element.specs.Settings.{settingsFormed}
-use Rattle.element.proofs.TypeArms.{arms}
+use Rattle.bits.proofs.Masks.{known-four}
+use Rattle.element.proofs.TypeMasks.{settings-within}
 use borrow.Author.Needs.{needs}
 use Rattle.element.proofs.settings.are_formed.Statement.{statement}
 use Rattle.element.proofs.settings.are_formed.Tie as tie
 
-enum-told : tie.Need-enum-told
-enum-told c = search needs
+speed-requires : tie.Need-speed-requires
+speed-requires c κs = search needs
 
-formed-requires : tie.Need-formed-requires
-formed-requires c κs = search needs
+settings-requires : tie.Need-settings-requires
+settings-requires c κs = search needs
 
-formed-requires-2 : tie.Need-formed-requires-2
-formed-requires-2 c κs = search needs
+are-within-requires : tie.Need-are-within-requires
+are-within-requires c κs = search needs
+
+array-read-result : tie.Need-array-read-result
+array-read-result c = search needs
 
 returns : tie.Need-returns
 unfolding settingsFormed layoutOf
-returns c = rw (c .before .enum-told .given .1) (c .formed .ensures)
-
-returns-2 : tie.Need-returns-2
-unfolding settingsFormed layoutOf
-returns-2 c = let s = c .before .before .args in let e = c .formed2 .ensures in arms (1 ∷ 2 ∷ 3 ∷ []) (λ k. c .formed2 .result ≡ settingsFormed k (s .e)) tt e e e (s .kind) (c .before .match .keys2)
+returns c =
+    let s = c .before .before .before .args in
+    let e = s .t2 in
+    let h = known-four e (search needs) (search needs) (search needs) (search needs) in
+    let w = c .are-within .ensures ∙ ap (λ (n : ℕ). within n (big (fourAt e 0))) (c .before .settings .ensures) ∙ settings-within (s .kind) e h in
+    let v = c .before .before .speed .ensures in
+    λ i. w i && (eqb (v i) 0 || not (eqb (bitAnd (getD e 3 0) (v i)) 0))
 
 pub are-formed-spec : {M : Type 1} → statement M
 are-formed-spec =
-    tie.close (tie.spec enum-told formed-requires formed-requires-2 returns returns-2)
+    tie.close
+    (tie.spec speed-requires settings-requires are-within-requires array-read-result returns)

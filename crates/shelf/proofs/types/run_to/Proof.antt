@@ -1,4 +1,5 @@
 -- `shelf::types::run_to` meets its contract. Assumes nothing.
+use native.Mathlib.Omega.{arith}
 use denote.Ref.{now}
 use borrow.Author.Needs.{needs}
 use Rattle.shelf.proofs.TypeRuns.{run-stays, run-behind}
@@ -8,11 +9,20 @@ use Rattle.shelf.proofs.types.run_to.Tie as tie
 returns : tie.Need-returns
 returns c = let s = c .before .before .before .args in run-stays (now (s .shelf)) (s .j) (c .before .before .before .pre .1) (c .if1 .taken)
 
+cast-run-from : tie.Need-cast-run-from
+cast-run-from c =
+    let a = c .before .before .before .before in
+    let b = run-behind (now (a .args .shelf)) (a .args .j) (a .pre .1) in
+    omega (arith, b .0)
+
 run-from-requires : tie.Need-run-from-requires
-run-from-requires c κs = let s = c .before .before .before .args in let b = run-behind (now (s .shelf)) (s .j) (c .before .before .before .pre .1) in (c .before .before .before .pre .0, (b .0, (b .1, b .2)))
+run-from-requires c κs =
+    let a = c .before .before .before .before in
+    let b = run-behind (now (a .args .shelf)) (a .args .j) (a .pre .1) in
+    (a .pre .0, (b .0, (b .1, b .2)))
 
 returns-2 : tie.Need-returns-2
 returns-2 c = search needs
 
 pub run-to-spec : {M : Type 1} → statement M
-run-to-spec = tie.close (tie.spec returns run-from-requires returns-2)
+run-to-spec = tie.close (tie.spec returns cast-run-from run-from-requires returns-2)

@@ -4,12 +4,11 @@ use mathlib.Core.Bool.{true}
 use Prim.Native.Nat.{_-_, _<_, _≤_}
 use native.Mathlib.Omega.{arith}
 use denote.Ref.{now}
-use borrow.Author.Needs.{needs}
 use borrow.Author.Tests.{not-true, not-false}
 use Rattle.bits.specs.Choice.{allBelow}
 use Rattle.bits.proofs.Logic.{below-next}
 use Rattle.shelf.specs.Types.{carried, elementsOf}
-use Rattle.shelf.proofs.TypeRuns.{run-on}
+use Rattle.shelf.proofs.TypeRuns.{run-on, run-small}
 use Rattle.page.proofs.ElementSlots.{front-there, element-there}
 use Rattle.page.proofs.SlotWalk.{places-run}
 use Rattle.threshold_page_out.specs.Tests.{elementOrdered}
@@ -41,7 +40,7 @@ run-to-requires c κs =
     (element-there (now (s .shelf)) (now (s .page)) (q .pre) (now (s .shelf)) refl refl (l .j) h .0, l .inv .1)
 
 places-in-requires : tie.Need-places-in-requires Inv-loop μ-loop
-places-in-requires c κs = search needs
+places-in-requires c κs = let s = c .before .before .before .before .before .before .before .args in run-small (now (s .shelf)) (c .before .before .loop .j) (c .run-to .ensures)
 
 element-ordered-requires : tie.Need-element-ordered-requires Inv-loop μ-loop
 element-ordered-requires c κs =

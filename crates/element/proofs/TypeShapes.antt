@@ -1,0 +1,238 @@
+-- Status elements and entries of any type, as numbers, from the facts of its rules. Assumes nothing.
+use mathlib.Core.Path.{_≡_, refl, sym, ap, subst, _∙_}
+use mathlib.Core.Bool.{Bool, true, false, _&&_}
+use mathlib.Core.List.{List, [], _∷_, _++_}
+use Prim.Native.Nat.{ℕ, zero, suc, _+_, _-_, _/_, _%_, _^_, _<_, _≤_}
+use native.Mathlib.Nat.{mod-lt, mod-eq-of-lt}
+use native.Mathlib.Omega.{arith}
+use lib.Arith.{digits-lt}
+use lib.Bits.{and-mask}
+use lib.Dec.{leb}
+use lib.ListN.{getD, replicate}
+use lib.Pow as pow
+use borrow.Author.Tests.{eqb-true, eq-eqb, leb-true, le-leb}
+use Rattle.bits.specs.Choice.{firstOf}
+use Rattle.bits.specs.Bits.{within, only}
+use Rattle.bits.specs.Places.{fourAt}
+use Rattle.bits.specs.Numbers.{big, bytes, Bytes}
+use Rattle.bits.proofs.Logic.{and-left, and-right, and-both, and-four, below-at, four-pass}
+use Rattle.bits.proofs.Masks.{within-four}
+use Rattle.bits.proofs.Widths.{bytes-big}
+use Rattle.element.specs.declared.types.Kind.{Kind}
+use Rattle.element.specs.StatusLayout.{Piece, StatusLayout, field, reserved, size, mostIn, mostOf, padded, twelve, fieldMask, shiftsOf, cuts, puts, three, holds, fit}
+use Rattle.element.specs.Rules.{Masks, codeAllowed, firstClear, shownMask}
+use Rattle.element.specs.Types.{rulesOf}
+use Rattle.element.specs.Status.{headOf, entryIn, statusOffending, mostShown, mostOverall}
+use Rattle.element.proofs.StatusBothWays.{Lays}
+use Rattle.element.proofs.Shapes.{twelve-cut, three-back}
+use Rattle.element.proofs.TypeFacts.{facts}
+
+-- the entry, and the bytes, by the places of the fields
+module _ (l : StatusLayout) (h : Lays l) where
+  pub entry-cut : (e : List ℕ) → Bytes (fourAt e 0) → headOf (getD e 0 0) ++ cuts (big (fourAt e 0)) (shiftsOf l) (mostOf l) ≡ entryIn l e
+  entry-cut e d =
+      let n = big (fourAt e 0) in
+      let x : n / 2 ^ 16 % 256 ≡ getD e 1 0 = omega (arith, d .1 .0, d .1 .1 .0, d .1 .1 .1 .0) in
+      let y : n / 2 ^ 8 % 256 ≡ getD e 2 0 = omega (arith, d .1 .1 .0, d .1 .1 .1 .0) in
+      let z : n % 256 ≡ getD e 3 0 = omega (arith, d .1 .1 .1 .0) in
+      ap (λ (t : List ℕ). headOf (getD e 0 0) ++ t) (twelve-cut l (h .second .eight) (h .third .eight) (h .fourth .eight) n ∙ (λ i. twelve l (x i) (y i) (z i)))
+
+  pub bytes-put : (x : List ℕ) → bytes 4 (puts (shiftsOf l) (mostOf l) x 4) ≡ 0 ∷ three l x 4
+  bytes-put x = three-back l (h .second .eight) (h .third .eight) (h .fourth .eight) (h .few) x 4
+
+-- a number is at most 2 ^ w - 1 exactly if it has no bit above the lowest w
+under-ones : (b w : ℕ) → leb b (2 ^ w - 1) ≡ true → within (2 ^ w - 1) b ≡ true
+under-ones b w h = eq-eqb _ _ (and-mask b w ∙ mod-eq-of-lt (pow.lt-of-le-ones w (leb-true _ _ h)))
+
+ones-over : (b w : ℕ) → within (2 ^ w - 1) b ≡ true → leb b (2 ^ w - 1) ≡ true
+ones-over b w h =
+    let e : b % 2 ^ w ≡ b = sym (and-mask b w) ∙ eqb-true _ _ h in
+    le-leb _ _ (pow.le-ones w (let m : b % 2 ^ w < 2 ^ w = mod-lt b (pow.pow-pos w) in rw e at m))
+
+-- such are the most that fields hold, and bytes
+abbrev Ones : List ℕ → Type 0
+Ones [] = Unit {0}
+Ones (m ∷ ms) = ((w : ℕ) × (w ≤ 8) × (m ≡ 2 ^ w - 1)) × Ones ms
+
+ones-most : (ps : List Piece) → size ps ≤ 8 → Ones (mostIn ps)
+ones-most [] h = tt
+ones-most (field w ∷ ps) h = ((w, omega arith, refl), ones-most ps (omega arith))
+ones-most (reserved w ∷ ps) h = ones-most ps (omega arith)
+
+ones-append : (xs ys : List ℕ) → Ones xs → Ones ys → Ones (xs ++ ys)
+ones-append [] ys p q = q
+ones-append (x ∷ xs) ys p q = (p .0, ones-append xs ys (p .1) q)
+
+ones-padded : (n : ℕ) (xs : List ℕ) → Ones xs → Ones (padded n xs)
+ones-padded zero xs p = tt
+ones-padded (suc n) [] p = ((0, omega arith, refl), ones-padded n [] tt)
+ones-padded (suc n) (x ∷ xs) p = (p .0, ones-padded n xs (p .1))
+
+ones-at : (xs : List ℕ) (i : ℕ) → Ones xs → (w : ℕ) × (w ≤ 8) × (getD xs i 0 ≡ 2 ^ w - 1)
+ones-at [] i p = (0, omega arith, refl)
+ones-at (x ∷ xs) zero p = p .0
+ones-at (x ∷ xs) (suc i) p = ones-at xs i (p .1)
+
+all-ones : (l : StatusLayout) → Lays l → Ones (mostOf l)
+all-ones l h =
+    let a = mostIn (l .second) in
+    let b = mostIn (l .third) in
+    let c = mostIn (l .fourth) in
+    let x = ones-most (l .second) (let e = h .second .eight in omega arith) in
+    let y = ones-most (l .third) (let e = h .third .eight in omega arith) in
+    let z = ones-most (l .fourth) (let e = h .fourth .eight in omega arith) in
+    ones-padded 12 (a ++ (b ++ c)) (ones-append a (b ++ c) x (ones-append b c y z))
+
+module _ (m : List ℕ) (o : Ones m) (i : ℕ) where
+  fit-within : (b : ℕ) → leb b (getD m i 0) ≡ true → within (getD m i 0) b ≡ true
+  fit-within b h = let w = ones-at m i o in rw (w .2) (under-ones b (w .0) (rw (w .2) at h))
+
+  within-fit : (b : ℕ) → within (getD m i 0) b ≡ true → leb b (getD m i 0) ≡ true
+  within-fit b h = let w = ones-at m i o in rw (w .2) (ones-over b (w .0) (rw (w .2) at h))
+
+  ones-small : getD m i 0 < 256
+  ones-small =
+      let w = ones-at m i o in
+      let a = pow.ones-lt (w .0) in
+      let b : 2 ^ (w .0) ≤ 2 ^ 8 = pow.pow-mono (w .1) in
+      rw (w .2) (omega arith)
+
+-- four bytes by four
+module _ (m x : List ℕ) (o : Ones m) (a b : ℕ) (h : Bytes (fourAt x b)) where
+  abbrev fits : ℕ → Bool
+  fits i = leb (getD x (b + i) 0) (getD m (a + i) 0)
+
+  four-masks : Bytes (fourAt m a)
+  four-masks = (ones-small m o a, (ones-small m o (a + 1), (ones-small m o (a + 2), (ones-small m o (a + 3), tt))))
+
+  word-in : leb (getD x b 0) (getD m a 0) ≡ true → fits 1 ≡ true → fits 2 ≡ true → fits 3 ≡ true → within (big (fourAt m a)) (big (fourAt x b)) ≡ true
+  word-in p q r s =
+      within-four _ _ _ _ _ _ _ _ four-masks h
+      ∙ and-both
+      (and-both (and-both (fit-within m o a (getD x b 0) p) (fit-within m o (a + 1) (getD x (b + 1) 0) q)) (fit-within m o (a + 2) (getD x (b + 2) 0) r))
+      (fit-within m o (a + 3) (getD x (b + 3) 0) s)
+
+  word-out : within (big (fourAt m a)) (big (fourAt x b)) ≡ true → (leb (getD x b 0) (getD m a 0) ≡ true) × (fits 1 ≡ true) × (fits 2 ≡ true) × (fits 3 ≡ true)
+  word-out t =
+      let w = and-four _ _ _ _ (sym (within-four _ _ _ _ _ _ _ _ four-masks h) ∙ t) in (
+        within-fit m o a (getD x b 0) (w .0),
+        within-fit m o (a + 1) (getD x (b + 1) 0) (w .1),
+        within-fit m o (a + 2) (getD x (b + 2) 0) (w .2),
+        within-fit m o (a + 3) (getD x (b + 3) 0) (w .3),
+      )
+
+both-ways : (a b : Bool) → (a ≡ true → b ≡ true) → (b ≡ true → a ≡ true) → a ≡ b
+both-ways true b f g = sym (f refl)
+both-ways false true f g = g refl
+both-ways false false f g = refl
+
+-- An entry whose code is at most 8, whose other bytes each have a mask that is a most.
+module _ (p q r : ℕ) (m x : List ℕ) (o : Ones (15 ∷ p ∷ q ∷ r ∷ m)) (h : (i : ℕ) → i < 16 → getD x i 0 < 256) where
+  abbrev most : List ℕ
+  most = 8 ∷ p ∷ q ∷ r ∷ m
+
+  abbrev words : Bool
+  words =
+      ((within (big (15 ∷ p ∷ q ∷ r ∷ [])) (big (fourAt x 0)) && within (big (fourAt m 0)) (big (fourAt x 4)))
+      && within (big (fourAt m 4)) (big (fourAt x 8)))
+      && within (big (fourAt m 8)) (big (fourAt x 12))
+
+  four-small : (b : ℕ) → b + 3 < 16 → Bytes (fourAt x b)
+  four-small b l = (h b (omega arith), (h (b + 1) (omega arith), (h (b + 2) (omega arith), (h (b + 3) (omega arith), tt))))
+
+  fit-in : fit most x 16 ≡ true → words && leb (getD x 0 0) 8 ≡ true
+  fit-in t =
+      let at : (i : ℕ) → i < 16 → holds most x i ≡ true = below-at (holds most x) 16 t in
+      let e : getD x 0 0 ≤ 8 = leb-true _ _ (at 0 (omega arith)) in
+      let k : List ℕ = 15 ∷ p ∷ q ∷ r ∷ m in
+      let n = o .1 .1 .1 .1 in
+      and-both
+      (and-both
+      (and-both
+      (and-both
+      (word-in k x o 0 0 (four-small 0 (omega arith)) (le-leb (getD x 0 0) 15 (omega arith)) (at 1 (omega arith)) (at 2 (omega arith)) (at 3 (omega arith)))
+      (word-in m x n 0 4 (four-small 4 (omega arith)) (at 4 (omega arith)) (at 5 (omega arith)) (at 6 (omega arith)) (at 7 (omega arith))))
+      (word-in m x n 4 8 (four-small 8 (omega arith)) (at 8 (omega arith)) (at 9 (omega arith)) (at 10 (omega arith)) (at 11 (omega arith))))
+      (word-in m x n 8 12 (four-small 12 (omega arith)) (at 12 (omega arith)) (at 13 (omega arith)) (at 14 (omega arith)) (at 15 (omega arith))))
+      (at 0 (omega arith))
+
+  fit-out : words && leb (getD x 0 0) 8 ≡ true → fit most x 16 ≡ true
+  fit-out t =
+      let k : List ℕ = 15 ∷ p ∷ q ∷ r ∷ m in
+      let n = o .1 .1 .1 .1 in
+      let s = and-left words (leb (getD x 0 0) 8) t in
+      let w = and-four (within (big (15 ∷ p ∷ q ∷ r ∷ [])) (big (fourAt x 0))) (within (big (fourAt m 0)) (big (fourAt x 4))) (within (big (fourAt m 4)) (big (fourAt x 8))) (within (big (fourAt m 8)) (big (fourAt x 12))) s in
+      let a = word-out k x o 0 0 (four-small 0 (omega arith)) (w .0) in
+      let b = word-out m x n 0 4 (four-small 4 (omega arith)) (w .1) in
+      let c = word-out m x n 4 8 (four-small 8 (omega arith)) (w .2) in
+      let d = word-out m x n 8 12 (four-small 12 (omega arith)) (w .3) in
+      and-both (and-both (and-both (and-both (and-both (and-both (and-both (and-both (and-both (and-both (and-both (and-both (and-both (and-both (and-both (and-both refl
+      (and-right words (leb (getD x 0 0) 8) t)) (a .1)) (a .2)) (a .3))
+      (b .0)) (b .1)) (b .2)) (b .3))
+      (c .0)) (c .1)) (c .2)) (c .3))
+      (d .0)) (d .1)) (d .2)) (d .3)
+
+  pub fit-words : words && leb (getD x 0 0) 8 ≡ fit most x 16
+  fit-words = both-ways (words && leb (getD x 0 0) 8) (fit most x 16) fit-out fit-in
+
+module _ (k : Kind) (x : List ℕ) (h : (i : ℕ) → i < 16 → getD x i 0 < 256) where
+  abbrev m : Masks
+  m = rulesOf k .masks
+
+  pub fits-words : (((within 0x0f010101 (big (fourAt x 0)) && within (m .shownFirst) (big (fourAt x 4))) && within (m .shownNext) (big (fourAt x 8))) && within (m .shownLast) (big (fourAt x 12))) && leb (getD x 0 0) 8 ≡ fit (mostShown k) x 16
+  unfolding mostShown
+  fits-words =
+      let one : (w : ℕ) × (w ≤ 8) × (1 ≡ 2 ^ w - 1) = (1, omega arith, refl) in
+      let o : Ones (15 ∷ 1 ∷ 1 ∷ 1 ∷ mostOf (rulesOf k .status)) = ((4, omega arith, refl), (one, (one, (one, all-ones (rulesOf k .status) (facts k .lays))))) in
+      ap (λ (n : Masks). (((within 0x0f010101 (big (fourAt x 0)) && within (n .shownFirst) (big (fourAt x 4))) && within (n .shownNext) (big (fourAt x 8))) && within (n .shownLast) (big (fourAt x 12))) && leb (getD x 0 0) 8) (facts k .masked)
+      ∙ fit-words 1 1 1 (mostOf (rulesOf k .status)) x o h
+
+pub overall-words : (x : List ℕ) → ((i : ℕ) → i < 16 → getD x i 0 < 256)
+    → (((within 0x0f000000 (big (fourAt x 0)) && within 0 (big (fourAt x 4))) && within 0 (big (fourAt x 8))) && within 0 (big (fourAt x 12))) && leb (getD x 0 0) 8 ≡ fit mostOverall x 16
+overall-words x h =
+    let none : (w : ℕ) × (w ≤ 8) × (0 ≡ 2 ^ w - 1) = (0, omega arith, refl) in
+    let o : Ones (15 ∷ 0 ∷ 0 ∷ 0 ∷ replicate 12 0) = ((4, omega arith, refl), (none, (none, (none, ones-padded 12 [] tt)))) in
+    fit-words 0 0 0 (replicate 12 0) x o h
+
+mask-below : (ps : List Piece) → fieldMask ps < 2 ^ size ps
+mask-below [] = omega arith
+mask-below (field w ∷ ps) = rw (pow.pow-add 2 w (size ps)) (digits-lt (pow.ones-lt w) (mask-below ps))
+mask-below (reserved w ∷ ps) =
+    let a = mask-below ps in
+    let b : 2 ^ size ps ≤ 2 ^ (w + size ps) = pow.pow-mono (omega arith) in
+    omega arith
+
+-- the first refused byte
+module _ (k : Kind) where
+  abbrev l : StatusLayout
+  l = rulesOf k .status
+
+  byte-mask : (ps : List Piece) → size ps ≡ 8 → fieldMask ps < 256
+  byte-mask ps e = subst (λ (n : ℕ). fieldMask ps < 2 ^ n) e (mask-below ps)
+
+  shown-bytes : Bytes (shownMask l)
+  shown-bytes =
+      let h = facts k .lays in
+      (omega arith, (byte-mask (l .second) (h .second .eight), (byte-mask (l .third) (h .third .eight), (byte-mask (l .fourth) (h .fourth .eight), tt))))
+
+  shown-is : rulesOf k .masks .shown ≡ big (shownMask l)
+  shown-is = ap (λ (m : Masks). m .shown) (facts k .masked)
+
+  pub shown-four : bytes 4 (rulesOf k .masks .shown) ≡ shownMask l
+  shown-four = ap (bytes 4) shown-is ∙ bytes-big (shownMask l) shown-bytes
+
+  module _ (e : List ℕ) where
+    pub none-hidden : Bytes (fourAt e 0) → within (rulesOf k .masks .shown) (big (fourAt e 0)) && codeAllowed (getD e 0 0 % 16) ≡ true → 4 ≡ statusOffending k e
+    unfolding statusOffending
+    none-hidden h t =
+        let c = and-right (within (rulesOf k .masks .shown) (big (fourAt e 0))) (codeAllowed (getD e 0 0 % 16)) t in
+        let s = and-left (within (rulesOf k .masks .shown) (big (fourAt e 0))) (codeAllowed (getD e 0 0 % 16)) t in
+        let q : within (big (shownMask l)) (big (fourAt e 0)) ≡ true = ap (λ (n : ℕ). within n (big (fourAt e 0))) (sym shown-is) ∙ s in
+        let w = and-four (only (6 ∷ 5 ∷ 4 ∷ 3 ∷ 2 ∷ 1 ∷ 0 ∷ []) (getD e 0 0)) (within (fieldMask (l .second)) (getD e 1 0)) (within (fieldMask (l .third)) (getD e 2 0)) (within (fieldMask (l .fourth)) (getD e 3 0)) (sym (within-four _ _ _ _ _ _ _ _ shown-bytes h) ∙ q) in
+        sym (facts k .hides e ∙ four-pass (and-both (w .0) c) (w .1) (w .2) (w .3))
+
+    pub first-hidden : firstOf (firstClear (getD e 0 0)) (within (getD (bytes 4 (rulesOf k .masks .shown)) 1 0) (getD e 1 0)) (within (getD (bytes 4 (rulesOf k .masks .shown)) 2 0) (getD e 2 0)) (within (getD (bytes 4 (rulesOf k .masks .shown)) 3 0) (getD e 3 0)) ≡ statusOffending k e
+    unfolding statusOffending
+    first-hidden =
+        ap (λ (m : List ℕ). firstOf (firstClear (getD e 0 0)) (within (getD m 1 0) (getD e 1 0)) (within (getD m 2 0) (getD e 2 0)) (within (getD m 3 0) (getD e 3 0))) shown-four
+        ∙ sym (facts k .hides e)

@@ -1,0 +1,29 @@
+-- `element_status::overall_fits` meets its contract. Assumes nothing.
+use native.Mathlib.Omega.{arith}
+use mathlib.Core.Path.{_∙_}
+use mathlib.Core.Bool.{_&&_}
+use Prim.Native.Nat.{ℕ, _<_}
+use lib.Dec.{leb}
+use lib.ListN.{getD}
+use mir.Val.{Fits}
+use mir.Syntax.{w8}
+use Rattle.element_status.proofs.ByteLaws.{words-alone}
+use borrow.Author.Needs.{needs}
+use Rattle.element_status.proofs.overall_fits.Statement.{statement}
+use Rattle.element_status.proofs.overall_fits.Tie as tie
+
+are-within-requires : tie.Need-are-within-requires
+are-within-requires c κs = search needs
+
+array-read-result : tie.Need-array-read-result
+array-read-result c = search needs
+
+returns : tie.Need-returns
+returns c =
+    let x = c .before .args .t1 in
+    let h : (i : ℕ) → i < 16 → getD x i 0 < 256 = λ i l. (let k : Fits w8 (getD x i 0) = search needs in omega arith) in
+    let e = c .are-within .ensures in
+    (λ i. e i && leb (getD x 0 0) 8) ∙ words-alone x h
+
+pub overall-fits-spec : {M : Type 1} → statement M
+overall-fits-spec = tie.close (tie.spec are-within-requires array-read-result returns)

@@ -1,0 +1,178 @@
+// What may be stored of an element of each type, what it shows of that, and the shape of its entry.
+use crate::fields;
+use crate::fields::Shape;
+use element::settings;
+use element::settings::Settings;
+use element::types::Kind;
+use element::verdict::Verdict;
+use element_verdict::thresholds;
+use element_verdict::verdict;
+ghost use mathlib.Core.Path.{_≡_};
+ghost use mathlib.Core.List.{[], _∷_};
+ghost use Rattle.bits.specs.Bits.{num};
+ghost use Rattle.element.specs.Settings.{settingsOf, fieldsFormed};
+ghost use Rattle.element.specs.declared.types.Kind.the-variants.{Cooling, Temperature, Voltage, Current};
+ghost use Rattle.element.specs.Verdict.{fanVerdict, temperatureVerdict, voltageVerdict, currentVerdict};
+ghost use Rattle.element.specs.Types.{isOn, fanStatus, fanFields, temperatureStatus, temperatureFields, voltageStatus, voltageFields, currentStatus, currentFields};
+ghost use Rattle.element.specs.Status.{firstByte, entryOf, statusBytes, shownBy, statusWith};
+
+const COOLING: Shape = Shape {
+    shift: [23, 16, 8, 6, 5, 4, 0, 0, 0, 0, 0, 0],
+    most: [1, 7, 255, 1, 1, 1, 7, 0, 0, 0, 0, 0],
+};
+
+const TEMPERATURE: Shape = Shape {
+    shift: [23, 22, 8, 3, 2, 1, 0, 0, 0, 0, 0, 0],
+    most: [1, 1, 255, 1, 1, 1, 1, 0, 0, 0, 0, 0],
+};
+
+const VOLTAGE: Shape = Shape {
+    shift: [23, 22, 19, 18, 17, 16, 8, 0, 0, 0, 0, 0],
+    most: [1, 1, 1, 1, 1, 1, 255, 255, 0, 0, 0, 0],
+};
+
+const CURRENT: Shape = Shape {
+    shift: [23, 22, 19, 17, 8, 0, 0, 0, 0, 0, 0, 0],
+    most: [1, 1, 1, 1, 255, 255, 0, 0, 0, 0, 0, 0],
+};
+
+// What is stored of an element is what its type may have. One function for all types, which the compiler makes again for each.
+pub fn are_formed(kind: Kind, stored: [u8; 4], t: [u8; 4], reading: u16, nominal: u16) -> bool
+    ensures { λ r. ⌜ r ≡ fieldsFormed kind stored t reading nominal ⌝ }
+{
+    match kind {
+        Kind::Cooling => formed_as(Kind::Cooling, stored, t, reading, nominal),
+        Kind::Temperature => formed_as(Kind::Temperature, stored, t, reading, nominal),
+        Kind::Voltage => formed_as(Kind::Voltage, stored, t, reading, nominal),
+        Kind::Current => formed_as(Kind::Current, stored, t, reading, nominal),
+    }
+}
+
+fn formed_as(kind: Kind, stored: [u8; 4], t: [u8; 4], reading: u16, nominal: u16) -> bool
+    ensures { λ r. ⌜ r ≡ fieldsFormed kind stored t reading nominal ⌝ }
+{
+    settings::are_formed(kind, stored)
+        & thresholds::are_had(kind, t)
+        & thresholds::are_ordered(kind, t)
+        & kind.may_read(reading)
+        & kind.may_have_nominal(nominal)
+}
+
+// The status element of an element with these stored settings, reading, nominal and thresholds.
+pub fn status(kind: Kind, stored: [u8; 4], reading: u16, nominal: u16, t: [u8; 4]) -> [u8; 4]
+    ensures { λ r. ⌜ r ≡ statusBytes kind (shownBy kind (settingsOf kind stored) reading nominal t) ⌝ }
+{
+    match kind {
+        Kind::Cooling => fan(stored, reading),
+        Kind::Temperature => temperature(stored, reading, t),
+        Kind::Voltage => voltage(stored, reading, nominal, t),
+        Kind::Current => current(stored, reading, nominal, t),
+    }
+}
+
+// The entry that four bytes say.
+pub fn entry(kind: Kind, e: [u8; 4]) -> [u8; 16]
+    ensures { λ r. ⌜ r ≡ entryOf kind e ⌝ }
+{
+    match kind {
+        Kind::Cooling => fields::entry_in(COOLING, e),
+        Kind::Temperature => fields::entry_in(TEMPERATURE, e),
+        Kind::Voltage => fields::entry_in(VOLTAGE, e),
+        Kind::Current => fields::entry_in(CURRENT, e),
+    }
+}
+
+// The four bytes that say an entry.
+pub fn bytes(kind: Kind, x: [u8; 16]) -> [u8; 4]
+    ensures { λ r. ⌜ r ≡ statusBytes kind x ⌝ }
+{
+    match kind {
+        Kind::Cooling => fields::bytes_in(COOLING, x),
+        Kind::Temperature => fields::bytes_in(TEMPERATURE, x),
+        Kind::Voltage => fields::bytes_in(VOLTAGE, x),
+        Kind::Current => fields::bytes_in(CURRENT, x),
+    }
+}
+
+// Byte 0 of a status element.
+fn first_byte(set: Settings, verdict: Verdict) -> u8
+    ensures { λ r. ⌜ r ≡ firstByte (verdict .code ∷ num (set .prdfail) ∷ num (set .disabled) ∷ num (set .swap) ∷ []) ⌝ }
+{
+    let flags = bits::nibble(false, set.prdfail, set.disabled, set.swap);
+    bits::join(flags, verdict.code)
+}
+
+fn fan(stored: [u8; 4], reading: u16) -> [u8; 4]
+    ensures { λ r. ⌜ r ≡ statusWith fanStatus fanFields (settingsOf Cooling stored) (fanVerdict (isOn (settingsOf Cooling stored)) reading) reading ⌝ }
+{
+    let v = verdict::of_fan(stored, reading);
+    fan_bytes(Settings::of(Kind::Cooling, stored), v, reading)
+}
+
+fn fan_bytes(set: Settings, v: Verdict, reading: u16) -> [u8; 4]
+    ensures { λ r. ⌜ r ≡ statusWith fanStatus fanFields set v reading ⌝ }
+{
+    let on = set.flags3 / 32 % 2;
+    [
+        first_byte(set, v),
+        set.flags1 / 128 % 2 * 128 + (reading / 256 % 8) as u8,
+        (reading % 256) as u8,
+        set.flags3 / 64 % 2 * 64 + on * 32 + (1 - on) * 16 + set.speed % 8,
+    ]
+}
+
+fn temperature(stored: [u8; 4], reading: u16, t: [u8; 4]) -> [u8; 4]
+    ensures { λ r. ⌜ r ≡ statusWith temperatureStatus temperatureFields (settingsOf Temperature stored) (temperatureVerdict reading t) reading ⌝ }
+{
+    let v = verdict::of_temperature(reading, t);
+    temperature_bytes(Settings::of(Kind::Temperature, stored), v, reading)
+}
+
+fn temperature_bytes(set: Settings, v: Verdict, reading: u16) -> [u8; 4]
+    ensures { λ r. ⌜ r ≡ statusWith temperatureStatus temperatureFields set v reading ⌝ }
+{
+    [
+        first_byte(set, v),
+        set.flags1 / 64 % 4 * 64,
+        (reading % 256) as u8,
+        bits::nibble(v.highcrit, v.highwarn, v.lowcrit, v.lowwarn),
+    ]
+}
+
+fn voltage(stored: [u8; 4], reading: u16, nominal: u16, t: [u8; 4]) -> [u8; 4]
+    ensures { λ r. ⌜ r ≡ statusWith voltageStatus voltageFields (settingsOf Voltage stored) (voltageVerdict reading nominal t) reading ⌝ }
+{
+    let v = verdict::of_voltage(reading, nominal, t);
+    voltage_bytes(Settings::of(Kind::Voltage, stored), v, reading)
+}
+
+fn voltage_bytes(set: Settings, v: Verdict, reading: u16) -> [u8; 4]
+    ensures { λ r. ⌜ r ≡ statusWith voltageStatus voltageFields set v reading ⌝ }
+{
+    let limits = bits::nibble(v.highwarn, v.lowwarn, v.highcrit, v.lowcrit);
+    [
+        first_byte(set, v),
+        bits::join(set.flags1 / 64 % 4 * 4, limits),
+        (reading / 256) as u8,
+        (reading % 256) as u8,
+    ]
+}
+
+fn current(stored: [u8; 4], reading: u16, nominal: u16, t: [u8; 4]) -> [u8; 4]
+    ensures { λ r. ⌜ r ≡ statusWith currentStatus currentFields (settingsOf Current stored) (currentVerdict reading nominal t) reading ⌝ }
+{
+    let v = verdict::of_current(reading, nominal, t);
+    current_bytes(Settings::of(Kind::Current, stored), v, reading)
+}
+
+fn current_bytes(set: Settings, v: Verdict, reading: u16) -> [u8; 4]
+    ensures { λ r. ⌜ r ≡ statusWith currentStatus currentFields set v reading ⌝ }
+{
+    let limits = bits::nibble(v.highwarn, false, v.highcrit, false);
+    [
+        first_byte(set, v),
+        bits::join(set.flags1 / 64 % 4 * 4, limits),
+        (reading / 256) as u8,
+        (reading % 256) as u8,
+    ]
+}

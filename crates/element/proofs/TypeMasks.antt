@@ -2,10 +2,10 @@
 use mathlib.Core.Path.{_≡_, refl, sym, ap, _∙_}
 use mathlib.Core.Bool.{Bool, true, false, _&&_, _||_}
 use mathlib.Core.List.{List}
-use Prim.Native.Nat.{ℕ, zero, suc, _+_, _-_, _<_, _≤_}
+use Prim.Native.Nat.{ℕ, zero, suc, _+_, _-_, _<_}
 use native.Mathlib.Nat.{mod-eq-of-lt}
 use native.Mathlib.Omega.{arith}
-use lib.Bits.{bitOr, and-self, and-mask, and-zero-r, or-lt}
+use lib.Bits.{bitOr, and-mask, and-zero-r, or-lt}
 use lib.Dec.{eqb, ltb}
 use lib.ListN.{getD}
 use borrow.Author.Tests.{eq-eqb, ne-eqb}
@@ -21,9 +21,9 @@ use Rattle.element.specs.declared.layout.Layout.{Layout}
 use Rattle.element.specs.Layouts.{settingsMask, controlMask}
 use Rattle.element.specs.Thresholds.{thresholdsMask}
 use Rattle.element.specs.Rules.{Masks}
-use Rattle.element.specs.Types.{rulesOf, layoutOf, had}
+use Rattle.element.specs.Types.{rulesOf, had}
 use Rattle.element.specs.Control.{reservedIn}
-use Rattle.element.proofs.Flags.{mask-small, mix-sum}
+use Rattle.element.proofs.Flags.{mask-small}
 use Rattle.element.proofs.TypeFacts.{facts}
 
 -- a threshold byte that is had may be any, another one is zero
@@ -43,12 +43,6 @@ module _ (k : Kind) where
   abbrev l : Layout
   l = rulesOf k .layout
 
-  -- flags and speed of the last byte stand apart
-  last-sum : bitOr (l .flags3) (l .speed) ≡ l .flags3 + l .speed
-  last-sum =
-      let h = facts k .sound in
-      mix-sum (l .flags3) (l .speed) (h .keeps3) (h .speeds) (h .three) (h .apart) (l .flags3) (l .speed) (and-self (l .flags3)) (and-self (l .speed))
-
   last-small : bitOr (l .flags3) (l .speed) < 256
   last-small = let h = facts k .sound in or-lt 8 (l .flags3) (l .speed) (mask-small (l .flags3) (h .keeps3)) (mask-small (l .speed) (h .speeds))
 
@@ -64,9 +58,6 @@ module _ (k : Kind) where
 
   settings-is : rulesOf k .masks .settings ≡ big (settingsMask l)
   settings-is = ap (λ (m : Masks). m .settings) (facts k .masked)
-
-  pub settings-four : bytes 4 (rulesOf k .masks .settings) ≡ settingsMask l
-  settings-four = ap (bytes 4) settings-is ∙ bytes-big (settingsMask l) settings-bytes
 
   pub settings-small : rulesOf k .masks .settings < 2147483648
   settings-small = let b = settings-bytes in let e = settings-is in omega (arith, b .1 .0, b .1 .1 .0, b .1 .1 .1 .0)
@@ -97,19 +88,3 @@ module _ (k : Kind) where
       ap (λ (x : Masks). within (x .thresholds) (big (fourAt t 0))) (facts k .masked)
       ∙ within-four _ _ _ _ _ _ _ _ m h
       ∙ (λ i. ((p i && q i) && r i) && s i)
-
-  -- the layout, read off the four bytes of the mask
-  module _ {n : List ℕ} {s : ℕ} (p : n ≡ settingsMask l) (q : s ≡ l .speed) where
-    pub speed-under : s ≤ getD n 3 0
-    speed-under = rw (p, q) (omega (arith, last-sum))
-
-    flags-left : getD n 3 0 - s ≡ l .flags3
-    flags-left = rw (p, q) (omega (arith, last-sum))
-
-    pub layout-is : _≡_ {A = Layout} (record { flags1 = getD n 1 0; flags2 = getD n 2 0; flags3 = getD n 3 0 - s; speed = s }) (layoutOf k)
-    unfolding layoutOf
-    layout-is =
-        let a = ap (λ (v : List ℕ). getD v 1 0) p in
-        let b = ap (λ (v : List ℕ). getD v 2 0) p in
-        let c = flags-left in
-        λ i. record { flags1 = a i; flags2 = b i; flags3 = c i; speed = q i }

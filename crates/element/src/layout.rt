@@ -15,13 +15,11 @@ impl Layout {
     pub fn of(kind: Kind) -> Layout
         ensures { λ r. ⌜ r ≡ layoutOf kind ⌝ }
     {
-        let named = bits::four_of(kind.settings());
-        let speed = kind.speed();
         Layout {
-            flags1: named[1],
-            flags2: named[2],
-            flags3: named[3] - speed,
-            speed,
+            flags1: kind.flags1(),
+            flags2: kind.flags2(),
+            flags3: kind.flags3(),
+            speed: kind.speed(),
         }
     }
 }

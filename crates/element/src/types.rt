@@ -69,7 +69,40 @@ impl Kind {
         }
     }
 
-    // Those of them that are SPEED, in the last byte.
+    // Those of them that are flags of the type, in bytes 1 to 3, and those that are SPEED, in byte 3.
+    pub fn flags1(self) -> u8
+        ensures { λ r. ⌜ r ≡ rulesOf self .layout .flags1 ⌝ }
+    {
+        match self {
+            Kind::Cooling => 0x80,
+            Kind::Temperature => 0xc0,
+            Kind::Voltage => 0xc0,
+            Kind::Current => 0xc0,
+        }
+    }
+
+    pub fn flags2(self) -> u8
+        ensures { λ r. ⌜ r ≡ rulesOf self .layout .flags2 ⌝ }
+    {
+        match self {
+            Kind::Cooling => 0,
+            Kind::Temperature => 0,
+            Kind::Voltage => 0,
+            Kind::Current => 0,
+        }
+    }
+
+    pub fn flags3(self) -> u8
+        ensures { λ r. ⌜ r ≡ rulesOf self .layout .flags3 ⌝ }
+    {
+        match self {
+            Kind::Cooling => 0x60,
+            Kind::Temperature => 0,
+            Kind::Voltage => 0,
+            Kind::Current => 0,
+        }
+    }
+
     pub fn speed(self) -> u8
         ensures { λ r. ⌜ r ≡ rulesOf self .layout .speed ⌝ }
     {

@@ -20,9 +20,9 @@ use Rattle.element.specs.declared.control.Control.{Control}
 use Rattle.element.specs.Layouts.{said}
 use Rattle.element.specs.Types.{layoutOf}
 use Rattle.element.specs.Settings.{settingsOf, settingsBytes, settingsFormed}
-use Rattle.element.specs.Control.{selected, unselected, asking, controlOf, offending, chosen, speedAfter, acted, settled}
+use Rattle.element.specs.Control.{selected, unselected, requesting, controlOf, offending, chosen, speedAfter, acted, settled}
 use Rattle.element.proofs.SettingsBothWays.{four}
-use Rattle.element.proofs.StoredSettings.{settings-back, settings-again, settings-storable, asked-storable}
+use Rattle.element.proofs.StoredSettings.{settings-back, settings-again, settings-storable, acted-storable}
 use Rattle.element.proofs.Acting.{settled-length}
 use Rattle.build_element.specs.Wishes.{silent, alike, requestBytes, requestFor, clearing, turning, own, brings, one}
 use Rattle.build_element.proofs.SoundLayout.{request-order, no-stop, request-storable}
@@ -132,8 +132,8 @@ module _ (k : Kind) (e w : List ℕ) where
   unfolding settled controlOf
   selected-acts c t h =
       let r = settingsOf k c in
-      let g : settled k (controlOf k c) e ≡ settingsBytes k (acted r s) = ap (λ (b : Bool). settled k (pick b (asking r) unselected) e) t in
-      sym (settings-back k (acted r s) (asked-storable k r s (settings-storable k c) (settings-storable k e))) ∙ ap (settingsOf k) (sym g) ∙ h
+      let g : settled k (controlOf k c) e ≡ settingsBytes k (acted r s) = ap (λ (b : Bool). settled k (pick b (requesting r) unselected) e) t in
+      sym (settings-back k (acted r s) (acted-storable k r s (settings-storable k c) (settings-storable k e))) ∙ ap (settingsOf k) (sym g) ∙ h
 
   own-first : (c : List ℕ) → Row k c → selected c ≡ true → settled k (controlOf k c) e ≡ w → InOrder (own k e w) c
   unfolding own

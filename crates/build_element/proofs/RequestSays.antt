@@ -14,7 +14,7 @@ use Rattle.element.specs.declared.types.Kind.{Kind}
 use Rattle.element.specs.declared.settings.Settings.{Settings}
 use Rattle.element.specs.Types.{layoutOf}
 use Rattle.element.specs.Settings.{settingsOf, settingsBytes}
-use Rattle.element.specs.Control.{selected, unselected, asking, controlOf, offending}
+use Rattle.element.specs.Control.{selected, unselected, requesting, controlOf, offending}
 use Rattle.element.proofs.SettingsBothWays.{first-clear, second-clear, third-clear, fourth-clear}
 use Rattle.element.proofs.StoredSettings.{sound, reserved-unnamed, Storable, settings-back, length-bytes}
 use Rattle.build_element.specs.Wishes.{silent, withSelect, requestBytes}
@@ -66,9 +66,9 @@ module _ (k : Kind) (r : Settings) where
       ∙ ap (settingsOf k) (sym (as-four e (length-bytes k r)))
       ∙ settings-back k r h
 
-  pub request-control : Storable k r → controlOf k (requestBytes k r) ≡ asking r
+  pub request-control : Storable k r → controlOf k (requestBytes k r) ≡ requesting r
   unfolding controlOf
-  request-control h = pick-yes (selected (requestBytes k r)) _ unselected request-selected ∙ ap asking (request-back h)
+  request-control h = pick-yes (selected (requestBytes k r)) _ unselected request-selected ∙ ap requesting (request-back h)
 
 -- four zeros are not selected
 pub silent-control : (k : Kind) → controlOf k silent ≡ unselected

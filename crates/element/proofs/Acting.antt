@@ -11,8 +11,8 @@ use Rattle.element.specs.declared.types.Kind.{Kind}
 use Rattle.element.specs.declared.settings.Settings.{Settings}
 use Rattle.element.specs.declared.control.Control.{Control}
 use Rattle.element.specs.Settings.{settingsOf, settingsBytes, settingsFormed}
-use Rattle.element.specs.Control.{selected, unselected, asking, controlOf, chosen, speedAfter, acted, settled}
-use Rattle.element.proofs.StoredSettings.{Storable, length-bytes, settings-back, settings-storable, asked-storable, acted-formed}
+use Rattle.element.specs.Control.{selected, unselected, requesting, controlOf, chosen, speedAfter, acted, settled}
+use Rattle.element.proofs.StoredSettings.{Storable, length-bytes, settings-back, settings-storable, acted-storable, acted-formed}
 
 swap-twice : (s r : Bool) → (s && not r) && not r ≡ s && not r
 swap-twice true true = refl
@@ -54,7 +54,7 @@ module _ (k : Kind) where
   unfolding controlOf
   select-of e = go (selected e)
     where
-      go : (t : Bool) → pick t (asking (settingsOf k e)) unselected .select ≡ t
+      go : (t : Bool) → pick t (requesting (settingsOf k e)) unselected .select ≡ t
       go true = refl
       go false = refl
 
@@ -78,13 +78,13 @@ module _ (k : Kind) where
 
 module _ (k : Kind) where
   -- what acts is the unselected element or one that asks for settings of the type
-  by-chosen : (P : Control → Type 0) → P unselected → ((r : Settings) → Storable k r → P (asking r)) → (overall own : List ℕ)
+  by-chosen : (P : Control → Type 0) → P unselected → ((r : Settings) → Storable k r → P (requesting r)) → (overall own : List ℕ)
       → P (chosen (controlOf k overall) (controlOf k own))
   unfolding chosen controlOf
   by-chosen P u h overall own = go (selected own) (selected overall)
     where
       go : (x y : Bool)
-          → P (pick (pick x (asking (settingsOf k own)) unselected .select) (pick x (asking (settingsOf k own)) unselected) (pick y (asking (settingsOf k overall)) unselected))
+          → P (pick (pick x (requesting (settingsOf k own)) unselected .select) (pick x (requesting (settingsOf k own)) unselected) (pick y (requesting (settingsOf k overall)) unselected))
       go true y = h (settingsOf k own) (settings-storable k own)
       go false true = h (settingsOf k overall) (settings-storable k overall)
       go false false = u
@@ -94,7 +94,7 @@ module _ (k : Kind) where
       ≡ settingsBytes k (acted r (settingsOf k e))
   twice e r l =
       let s = settingsOf k e in
-      ap (λ (x : Settings). settingsBytes k (acted r x)) (settings-back k (acted r s) (asked-storable k r s l (settings-storable k e)))
+      ap (λ (x : Settings). settingsBytes k (acted r x)) (settings-back k (acted r s) (acted-storable k r s l (settings-storable k e)))
       ∙ ap (settingsBytes k) (acted-twice r s)
 
   module _ (overall own e : List ℕ) where
@@ -122,7 +122,7 @@ module _ (k : Kind) where
         by-chosen (λ (c : Control). settingsOf k (settled k c e) .swap ≡ true → settingsOf k e .swap ≡ true) (λ h. h)
         (λ r l h.
         let s = settingsOf k e in
-        let b = settings-back k (acted r s) (asked-storable k r s l (settings-storable k e)) in
+        let b = settings-back k (acted r s) (acted-storable k r s l (settings-storable k e)) in
         and-left (s .swap) (not (r .swap)) (sym (ap (λ (x : Settings). x .swap) b) ∙ h))
         overall
         own

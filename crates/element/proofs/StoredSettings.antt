@@ -38,8 +38,8 @@ module _ (k : Kind) where
   unfolding settingsBytes
   length-bytes s = refl
 
-  pub asked-storable : (r s : Settings) → Storable r → Storable s → Storable (acted r s)
-  asked-storable = layouts.acted-placed (layoutOf k)
+  pub acted-storable : (r s : Settings) → Storable r → Storable s → Storable (acted r s)
+  acted-storable = layouts.acted-placed (layoutOf k)
 
   -- four bytes that are settings of the type are those that store what they say
   pub settings-again : (a b c d : ℕ) → a < 256 → b < 256 → c < 256 → d < 256 → settingsFormed k (a ∷ b ∷ c ∷ d ∷ []) ≡ true

@@ -25,12 +25,12 @@ abbrev pub unselected : Control
 unselected = record { select = false; request = nothing }
 
 -- a selected element, whose bits stand where settings have theirs, RST SWAP in the place of SWAP
-abbrev pub asking : Settings → Control
-asking r = record { select = true; request = r }
+abbrev pub requesting : Settings → Control
+requesting r = record { select = true; request = r }
 
 -- an unselected element's other 31 bits have no effect
 unfoldable pub controlOf : Kind → List ℕ → Control
-controlOf k e = pick (selected e) (asking (settingsOf k e)) unselected
+controlOf k e = pick (selected e) (requesting (settingsOf k e)) unselected
 
 -- the first byte with a reserved bit set, 4 if none has one
 unfoldable pub reservedIn : Kind → List ℕ → ℕ

@@ -95,11 +95,11 @@ pub fn bytes(kind: Kind, x: [u8; 16]) -> [u8; 4]
 }
 
 // Byte 0 of a status element.
-fn first_byte(set: Settings, verdict: Verdict) -> u8
-    ensures { λ r. ⌜ r ≡ firstByte (verdict .code ∷ num (set .prdfail) ∷ num (set .disabled) ∷ num (set .swap) ∷ []) ⌝ }
+fn first_byte(set: Settings, code: u8) -> u8
+    ensures { λ r. ⌜ r ≡ firstByte (code ∷ num (set .prdfail) ∷ num (set .disabled) ∷ num (set .swap) ∷ []) ⌝ }
 {
     let flags = bits::nibble(false, set.prdfail, set.disabled, set.swap);
-    bits::join(flags, verdict.code)
+    bits::join(flags, code)
 }
 
 fn fan(stored: [u8; 4], reading: u16) -> [u8; 4]
@@ -114,7 +114,7 @@ fn fan_bytes(set: Settings, v: Verdict, reading: u16) -> [u8; 4]
 {
     let on = set.flags3 / 32 % 2;
     [
-        first_byte(set, v),
+        first_byte(set, v.code),
         set.flags1 / 128 % 2 * 128 + (reading / 256 % 8) as u8,
         (reading % 256) as u8,
         set.flags3 / 64 % 2 * 64 + on * 32 + (1 - on) * 16 + set.speed % 8,
@@ -132,7 +132,7 @@ fn temperature_bytes(set: Settings, v: Verdict, reading: u16) -> [u8; 4]
     ensures { λ r. ⌜ r ≡ statusWith temperatureStatus temperatureFields set v reading ⌝ }
 {
     [
-        first_byte(set, v),
+        first_byte(set, v.code),
         set.flags1 / 64 % 4 * 64,
         (reading % 256) as u8,
         bits::nibble(v.highcrit, v.highwarn, v.lowcrit, v.lowwarn),
@@ -151,7 +151,7 @@ fn voltage_bytes(set: Settings, v: Verdict, reading: u16) -> [u8; 4]
 {
     let limits = bits::nibble(v.highwarn, v.lowwarn, v.highcrit, v.lowcrit);
     [
-        first_byte(set, v),
+        first_byte(set, v.code),
         bits::join(set.flags1 / 64 % 4 * 4, limits),
         (reading / 256) as u8,
         (reading % 256) as u8,
@@ -170,7 +170,7 @@ fn current_bytes(set: Settings, v: Verdict, reading: u16) -> [u8; 4]
 {
     let limits = bits::nibble(v.highwarn, false, v.highcrit, false);
     [
-        first_byte(set, v),
+        first_byte(set, v.code),
         bits::join(set.flags1 / 64 % 4 * 4, limits),
         (reading / 256) as u8,
         (reading % 256) as u8,

@@ -100,8 +100,8 @@ abbrev control : List ℕ → List ℕ → List ℕ → List ℕ → List ℕ
 control o x y z = (0x02 ∷ 0x00 ∷ 0x00 ∷ 0x14 ∷ 0x00 ∷ 0x00 ∷ 0x00 ∷ 0x07 ∷ []) ++ o ++ x ++ y ++ z
 
 -- elements that ask for SPEED 5, and for nothing
-abbrev asks : List ℕ
-asks = 0x80 ∷ 0x00 ∷ 0x00 ∷ 0x25 ∷ []
+abbrev requests : List ℕ
+requests = 0x80 ∷ 0x00 ∷ 0x00 ∷ 0x25 ∷ []
 
 abbrev silent : List ℕ
 silent = 0x00 ∷ 0x00 ∷ 0x00 ∷ 0x00 ∷ []
@@ -125,9 +125,9 @@ table =
     -- fans of A: ON, SPEED 3, reading 120
     ∷ shows Cooling (on 0x23) 120 0 none (0x01 ∷ 0x00 ∷ 0x78 ∷ 0x23 ∷ [])
     -- wanted SPEED 5 for all, for the middle fan, for the first two
-    ∷ builds fansA (on 0x25 ++ on 0x25 ++ on 0x25) (control asks silent silent silent) 1
-    ∷ builds fansA (on 0x23 ++ on 0x25 ++ on 0x23) (control silent silent asks silent) 1
-    ∷ builds fansA (on 0x25 ++ on 0x25 ++ on 0x23) (control silent asks asks silent) 2
+    ∷ builds fansA (on 0x25 ++ on 0x25 ++ on 0x25) (control requests silent silent silent) 1
+    ∷ builds fansA (on 0x23 ++ on 0x25 ++ on 0x23) (control silent silent requests silent) 1
+    ∷ builds fansA (on 0x25 ++ on 0x25 ++ on 0x23) (control silent requests requests silent) 2
     -- stored speeds 3, 4, 5, wanted IDENT on all
     ∷ builds (shelfA (fanAt (on 0x23) 120) (fanAt (on 0x24) 120) (fanAt (on 0x25) 120))
     ((0x00 ∷ 0x80 ∷ 0x00 ∷ 0x23 ∷ []) ++ (0x00 ∷ 0x80 ∷ 0x00 ∷ 0x24 ∷ []) ++ (0x00 ∷ 0x80 ∷ 0x00 ∷ 0x25 ∷ []))

@@ -11,7 +11,7 @@ join-requires : tie.Need-join-requires
 join-requires c κs = search needs
 
 returns : tie.Need-returns
-returns c = let s = c .before .before .args in first-is (s .set .prdfail) (s .set .disabled) (s .set .swap) (s .verdict .code) (c .before .nibble .ensures) (c .join .ensures)
+returns c = let s = c .before .before .args in first-is (s .set .prdfail) (s .set .disabled) (s .set .swap) (s .code) (c .before .nibble .ensures) (c .join .ensures)
 
 pub first-byte-spec : {M : Type 1} → statement M
 first-byte-spec = tie.close (tie.spec nibble-requires join-requires returns)

@@ -2,7 +2,7 @@
 use mathlib.Core.Path.{sym, ap, _∙_}
 use Rattle.bits.proofs.Logic.{pick-yes, pick-no}
 use Rattle.element.specs.Settings.{settingsOf}
-use Rattle.element.specs.Control.{selected, unselected, asking, controlOf}
+use Rattle.element.specs.Control.{selected, unselected, requesting, controlOf}
 use borrow.Author.Needs.{needs}
 use Rattle.element.proofs.control.Control.of.Statement.{statement}
 use Rattle.element.proofs.control.Control.of.Tie as tie
@@ -15,11 +15,11 @@ of-requires c κs = search needs
 
 returns : tie.Need-returns
 unfolding controlOf
-returns c = let s = c .before .before .before .args in ap asking (c .of .ensures) ∙ sym (pick-yes (selected (s .e)) (asking (settingsOf (s .kind) (s .e))) unselected (sym (c .before .before .is-selected .ensures) ∙ c .before .if1 .taken))
+returns c = let s = c .before .before .before .args in ap requesting (c .of .ensures) ∙ sym (pick-yes (selected (s .e)) (requesting (settingsOf (s .kind) (s .e))) unselected (sym (c .before .before .is-selected .ensures) ∙ c .before .if1 .taken))
 
 returns-2 : tie.Need-returns-2
 unfolding controlOf
-returns-2 c = let s = c .before .before .args in sym (pick-no (selected (s .e)) (asking (settingsOf (s .kind) (s .e))) unselected (sym (c .before .is-selected .ensures) ∙ c .if1 .left))
+returns-2 c = let s = c .before .before .args in sym (pick-no (selected (s .e)) (requesting (settingsOf (s .kind) (s .e))) unselected (sym (c .before .is-selected .ensures) ∙ c .if1 .left))
 
 pub of-spec : {M : Type 1} → statement M
 of-spec = tie.close (tie.spec is-selected-requires of-requires returns returns-2)

@@ -1,6 +1,6 @@
 -- Settings and the four bytes that store them say the same, each way round, under any layout whose masks are sound. Assumes nothing.
 use mathlib.Core.Path.{_≡_, refl, ap, _∙_}
-use mathlib.Core.Bool.{Bool, true, false, not, _||_}
+use mathlib.Core.Bool.{Bool, true, false, not, _&&_, _||_}
 use mathlib.Core.List.{List, [], _∷_}
 use Prim.Native.Nat.{ℕ, _<_}
 use lib.Bits.{bitAnd, bitOr}
@@ -9,7 +9,7 @@ use lib.ListN.{getD}
 use borrow.Author.Tests.{eqb-true, not-true}
 use Rattle.bits.specs.Choice.{pick}
 use Rattle.bits.specs.Bits.{bit, within, only, nibble, join}
-use Rattle.bits.proofs.Logic.{and-both, and-five}
+use Rattle.bits.proofs.Logic.{and-left, and-right, and-both, and-four, and-five}
 use Rattle.bits.proofs.Halves.{flags-high, again-byte}
 use Rattle.element.specs.declared.layout.Layout.{Layout}
 use Rattle.element.specs.declared.settings.Settings.{Settings}
@@ -44,6 +44,31 @@ module _ (l : Layout) where
     pub three : leb (l .speed) 7 ≡ true
     pub apart : mixes (l .flags3) (l .speed) ≡ true
     pub whole : splits (l .flags3) (l .speed) ≡ true
+
+  abbrev masksTest : Bool
+  masksTest = ((keeps (l .flags1) && keeps (l .flags2)) && keeps (l .flags3)) && keeps (l .speed)
+
+  abbrev apartTest : Bool
+  apartTest = leb (l .speed) 7 && mixes (l .flags3) (l .speed)
+
+  -- as antt finds by computing it
+  abbrev pub soundTest : Bool
+  soundTest = masksTest && (apartTest && splits (l .flags3) (l .speed))
+
+  pub sound-tested : soundTest ≡ true → Sound
+  sound-tested t =
+      let m = and-four (keeps (l .flags1)) (keeps (l .flags2)) (keeps (l .flags3)) (keeps (l .speed)) (and-left masksTest _ t) in
+      let r = and-right masksTest (apartTest && splits (l .flags3) (l .speed)) t in
+      let a = and-left apartTest (splits (l .flags3) (l .speed)) r in
+      record {
+        keeps1 = m .0;
+        keeps2 = m .1;
+        keeps3 = m .2;
+        speeds = m .3;
+        three = and-left (leb (l .speed) 7) (mixes (l .flags3) (l .speed)) a;
+        apart = and-right (leb (l .speed) 7) (mixes (l .flags3) (l .speed)) a;
+        whole = and-right apartTest (splits (l .flags3) (l .speed)) r;
+      }
 
   -- settings that the layout has a place for
   abbrev pub Placed : Settings → Type 0

@@ -11,21 +11,18 @@ use Rattle.bits.proofs.Halves.{num-small}
 use Rattle.element.specs.declared.types.Kind.{Kind}
 use Rattle.element.specs.declared.types.Kind.the-variants.{Cooling, Temperature, Voltage, Current}
 use Rattle.element.specs.Verdict.{unlimited, above, below, over, under}
-use Rattle.element.specs.Types.{isOn, rulesOf}
+use Rattle.element.specs.Types.{fanLayout, isOn, fanStatus, sensorLayout, temperatureStatus, voltageStatus, currentStatus, rulesOf}
+use Rattle.element.proofs.SettingsBothWays.{sound-tested}
+use Rattle.element.proofs.StatusBothWays.{lays-tested}
 use Rattle.element.proofs.Facts.{Facts, code-picked, code-judged, code-either}
 
 pub facts : (k : Kind) → Facts (rulesOf k)
 facts Cooling = record {
   masked = refl;
-  sound = record { keeps1 = refl; keeps2 = refl; keeps3 = refl; speeds = refl; three = refl; apart = refl; whole = refl };
+  sound = sound-tested fanLayout refl;
   reserves = λ e. refl;
   judges = λ s r n t. code-picked (isOn s && eqb r 0) false;
-  lays = record {
-    second = record { eight = refl; again = refl; clear = refl };
-    third = record { eight = refl; again = refl; clear = refl };
-    fourth = record { eight = refl; again = refl; clear = refl };
-    few = omega arith;
-  };
+  lays = lays-tested fanStatus refl;
   hides = λ e. refl;
   shows = λ s v r l p a.
       let h = leb-true r 2047 a in
@@ -34,48 +31,33 @@ facts Cooling = record {
 }
 facts Temperature = record {
   masked = refl;
-  sound = record { keeps1 = refl; keeps2 = refl; keeps3 = refl; speeds = refl; three = refl; apart = refl; whole = refl };
+  sound = sound-tested sensorLayout refl;
   reserves = λ e. refl;
   judges = λ s r n t.
       code-either (eqb r 0) (unlimited 6) _ refl
       (code-judged (above r (getD t 0 0)) (above r (getD t 1 0)) (below r (getD t 2 0)) (below r (getD t 3 0)));
-  lays = record {
-    second = record { eight = refl; again = refl; clear = refl };
-    third = record { eight = refl; again = refl; clear = refl };
-    fourth = record { eight = refl; again = refl; clear = refl };
-    few = omega arith;
-  };
+  lays = lays-tested temperatureStatus refl;
   hides = λ e. refl;
   shows = λ s v r l p a.
       (omega arith, (omega arith, (omega arith, (num-small (v .highcrit), (num-small (v .highwarn), (num-small (v .lowcrit), (num-small (v .lowwarn), tt)))))));
 }
 facts Voltage = record {
   masked = refl;
-  sound = record { keeps1 = refl; keeps2 = refl; keeps3 = refl; speeds = refl; three = refl; apart = refl; whole = refl };
+  sound = sound-tested sensorLayout refl;
   reserves = λ e. refl;
   judges = λ s r n t.
       code-judged (over r n (getD t 0 0)) (over r n (getD t 1 0)) (under r n (getD t 2 0)) (under r n (getD t 3 0));
-  lays = record {
-    second = record { eight = refl; again = refl; clear = refl };
-    third = record { eight = refl; again = refl; clear = refl };
-    fourth = record { eight = refl; again = refl; clear = refl };
-    few = omega arith;
-  };
+  lays = lays-tested voltageStatus refl;
   hides = λ e. refl;
   shows = λ s v r l p a.
       (omega arith, (omega arith, (num-small (v .highwarn), (num-small (v .lowwarn), (num-small (v .highcrit), (num-small (v .lowcrit), (omega arith, (omega arith, tt))))))));
 }
 facts Current = record {
   masked = refl;
-  sound = record { keeps1 = refl; keeps2 = refl; keeps3 = refl; speeds = refl; three = refl; apart = refl; whole = refl };
+  sound = sound-tested sensorLayout refl;
   reserves = λ e. refl;
   judges = λ s r n t. code-judged (over r n (getD t 0 0)) (over r n (getD t 1 0)) false false;
-  lays = record {
-    second = record { eight = refl; again = refl; clear = refl };
-    third = record { eight = refl; again = refl; clear = refl };
-    fourth = record { eight = refl; again = refl; clear = refl };
-    few = omega arith;
-  };
+  lays = lays-tested currentStatus refl;
   hides = λ e. refl;
   shows = λ s v r l p a.
       (omega arith, (omega arith, (num-small (v .highwarn), (num-small (v .highcrit), (omega arith, (omega arith, tt))))));

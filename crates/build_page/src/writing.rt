@@ -21,18 +21,6 @@ ghost use Rattle.page.specs.Header.{HasPage};
 ghost use Rattle.build_page.specs.Outcome.{builtOf, leftBy};
 ghost use Rattle.build_page.specs.Page.{rowUnder, rowFor, selectsFor, controlPage};
 
-// The four bytes of a number.
-fn four_of(n: u32) -> [u8; 4]
-    ensures { λ r. ⌜ r ≡ bytes 4 n ⌝ }
-{
-    [
-        (n / 256 / 256 / 256 % 256) as u8,
-        (n / 256 / 256 % 256) as u8,
-        (n / 256 % 256) as u8,
-        (n % 256) as u8,
-    ]
-}
-
 // The overall element that stands from this slot on, as the number that its bytes say: so one register carries it.
 fn overall(shelf: &[u8], wanted: &[u8], at: Slot, standing: u32) -> u32
     requires { ⌜ HasWishes (now shelf) (now wanted) at ⌝ }
@@ -51,7 +39,7 @@ fn row(shelf: &[u8], wanted: &[u8], at: Slot, overall: u32) -> [u8; 4]
     requires { ⌜ HasWishes (now shelf) (now wanted) at ⌝ }
     ensures { λ r. ⌜ r ≡ rowUnder (now (shelf .entry)) (now (wanted .entry)) at (bytes 4 overall) ⌝ }
 {
-    let over = four_of(overall);
+    let over = bits::four_of(overall);
     if at.overall {
         return over;
     }

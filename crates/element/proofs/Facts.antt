@@ -9,14 +9,14 @@ use Rattle.element.specs.declared.settings.Settings.{Settings}
 use Rattle.element.specs.declared.verdict.Verdict.{Verdict}
 use Rattle.element.specs.Layouts.{unnamed}
 use Rattle.element.specs.Verdict.{codeFor, judged}
-use Rattle.element.specs.Rules.{Rules, codeAllowed, unshown, masksOf}
+use Rattle.element.specs.Rules.{Rules, codeAllowed, unshown, numbersOf}
 use Rattle.element.proofs.SettingsBothWays.{Sound, Placed}
 use Rattle.element.proofs.Pieces.{AllLe}
 use Rattle.element.proofs.StatusBothWays.{Lays, allMost}
 
 module _ (r : Rules) where
   pub record Facts : Type 0 where
-    pub masked : r .masks ≡ masksOf (r .layout) (r .status) (r .thresholds)
+    pub numbered : r .numbers ≡ numbersOf (r .layout) (r .status) (r .thresholds)
     -- settings: the masks are sound, and what they do not name is reserved
     pub sound : Sound (r .layout)
     pub reserves : (e : List ℕ) → r .controlOffence e ≡ unnamed (r .layout) e

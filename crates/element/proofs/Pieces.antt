@@ -90,6 +90,11 @@ fields-count [] b = refl
 fields-count (field w ∷ ps) b = ap suc (fields-count ps b)
 fields-count (reserved w ∷ ps) b = fields-count ps b
 
+pub length-padded : (n : ℕ) (v : List ℕ) → length (padded n v) ≡ n
+length-padded zero v = refl
+length-padded (suc n) [] = ap suc (length-padded n [])
+length-padded (suc n) (x ∷ v) = ap suc (length-padded n v)
+
 pub pad-append : (n : ℕ) (xs : List ℕ) → length xs ≤ n → (ys : List ℕ) × (padded n xs ≡ xs ++ ys)
 pad-append n [] h = (padded n [], refl)
 pad-append zero (x ∷ xs) h = absurd (omega (arith, h))

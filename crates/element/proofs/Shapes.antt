@@ -6,12 +6,13 @@ use native.Mathlib.Nat.{mod-lt, mod-eq-of-lt, mul-assoc, add-mul, add-assoc, add
 use native.Mathlib.Omega.{arith}
 use lib.Arith.{digits-lt}
 use lib.Bits.{bitAnd, bitOr, and-mask, and-zero-r, or-zero-l, or-shifted}
-use lib.ListN.{length, getD, length-append}
+use lib.ListN.{length, drop, getD, length-append, drop-of-length-le}
+use lib.Seq.{drop-cons}
 use lib.Pow as pow
 use Rattle.bits.specs.Numbers.{big, bytes, Bytes}
 use Rattle.bits.proofs.Widths.{bytes-big}
 use Rattle.element.specs.StatusLayout.{Piece, StatusLayout, field, reserved, size, count, mostIn, mostOf, fieldsIn, byteFrom, padded, twelve, three, shiftsIn, shiftsOf, cutAt, putOnto, cuts, puts}
-use Rattle.element.proofs.Pieces.{byte-small}
+use Rattle.element.proofs.Pieces.{byte-small, length-padded}
 
 -- a field of one byte of a number
 cut-field : (m k w : ℕ) → k + w ≤ 8 → m / 2 ^ k % 2 ^ w ≡ m % 2 ^ 8 / 2 ^ k % 2 ^ w
@@ -218,3 +219,51 @@ module _ (l : StatusLayout) (p : size (l .second) ≡ 8) (q : size (l .third) �
         let z = fourth-small in
         let h : Bytes (0 ∷ three l v i) = (omega arith, (omega arith, (omega arith, (omega arith, tt)))) in
         ap (bytes 4) (three-put ∙ (let e : (a * 256 + b) * 256 + c ≡ big (0 ∷ three l v i) = omega arith in e)) ∙ bytes-big (0 ∷ three l v i) h
+
+-- The lowest bits of twelve fields are bytes.
+shifts-small : (b : ℕ) (ps : List Piece) → b + size ps ≤ 24 → Bytes (shiftsIn b ps)
+shifts-small b [] h = tt
+shifts-small b (field w ∷ ps) h = (omega arith, shifts-small b ps (omega arith))
+shifts-small b (reserved w ∷ ps) h = shifts-small b ps (omega arith)
+
+small-append : (xs ys : List ℕ) → Bytes xs → Bytes ys → Bytes (xs ++ ys)
+small-append [] ys p q = q
+small-append (x ∷ xs) ys p q = (p .0, small-append xs ys (p .1) q)
+
+small-padded : (n : ℕ) (xs : List ℕ) → Bytes xs → Bytes (padded n xs)
+small-padded zero xs p = tt
+small-padded (suc n) [] p = (omega arith, small-padded n [] tt)
+small-padded (suc n) (x ∷ xs) p = (p .0, small-padded n xs (p .1))
+
+small-at : (xs : List ℕ) (i : ℕ) → Bytes xs → getD xs i 0 < 256
+small-at [] i p = omega arith
+small-at (x ∷ xs) zero p = p .0
+small-at (x ∷ xs) (suc i) p = small-at xs i (p .1)
+
+pub shift-small : (l : StatusLayout) (i : ℕ) → size (l .second) ≡ 8 → size (l .third) ≡ 8 → size (l .fourth) ≡ 8 → getD (shiftsOf l) i 0 < 256
+shift-small l i p q r =
+    let a = shiftsIn 16 (l .second) in
+    let b = shiftsIn 8 (l .third) in
+    let c = shiftsIn 0 (l .fourth) in
+    let x = shifts-small 16 (l .second) (omega arith) in
+    let y = shifts-small 8 (l .third) (omega arith) in
+    let z = shifts-small 0 (l .fourth) (omega arith) in
+    small-at (shiftsOf l) i (small-padded 12 (a ++ (b ++ c)) (small-append a (b ++ c) x (small-append b c y z)))
+
+-- a list by its numbers, n of them from i on
+abbrev pub listed : List ℕ → ℕ → ℕ → List ℕ
+listed v i zero = []
+listed v i (suc n) = getD v i 0 ∷ listed v (suc i) n
+
+list-from : (v : List ℕ) (i n : ℕ) → length v ≡ i + n → drop i v ≡ listed v i n
+list-from v i zero e = drop-of-length-le v {i = i} (omega (arith, e))
+list-from v i (suc n) e = drop-cons v i 0 (omega (arith, e)) ∙ ap (λ (t : List ℕ). getD v i 0 ∷ t) (list-from v (suc i) n (omega (arith, e)))
+
+padded-listed : (v : List ℕ) → padded 12 v ≡ listed (padded 12 v) 0 12
+padded-listed v = list-from (padded 12 v) 0 12 (length-padded 12 v)
+
+pub shifts-listed : (l : StatusLayout) → shiftsOf l ≡ listed (shiftsOf l) 0 12
+shifts-listed l = padded-listed (shiftsIn 16 (l .second) ++ (shiftsIn 8 (l .third) ++ shiftsIn 0 (l .fourth)))
+
+pub mosts-listed : (l : StatusLayout) → mostOf l ≡ listed (mostOf l) 0 12
+mosts-listed l = padded-listed (mostIn (l .second) ++ (mostIn (l .third) ++ mostIn (l .fourth)))

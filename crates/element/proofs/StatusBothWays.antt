@@ -155,7 +155,34 @@ module _ (l : StatusLayout) (h : Lays l) where
         padded-le 12 (x ++ (y ++ z)) (allMost l)
         (append-le x _ (y ++ z) _ (fields-le (l .second) b) (append-le y _ z _ (fields-le (l .third) c) (fields-le (l .fourth) d)))
 
-  -- fields that fit are read back from the bytes that show them
+  -- fields that fit are read back from the bytes that show them: part by part
+  module _ (f a b c r : List ℕ) (e : padded 12 f ≡ a ++ (b ++ (c ++ r))) (p : length a ≡ count (l .second)) (q : length b ≡ count (l .third)) where
+    second-back : ((z : List ℕ) → cutIn (l .second) (a ++ z) 0 ≡ a) → fieldsIn (l .second) (byteFrom (l .second) (padded 12 f) 0) ≡ a
+    second-back g = fields-cut (l .second) (padded 12 f) 0 ∙ ap (λ (z : List ℕ). cutIn (l .second) z 0) e ∙ g (b ++ (c ++ r))
+
+    third-back : ((z : List ℕ) → cutIn (l .third) (b ++ z) 0 ≡ b) → fieldsIn (l .third) (byteFrom (l .third) (padded 12 f) (count (l .second))) ≡ b
+    third-back g =
+        fields-cut (l .third) (padded 12 f) _ ∙ ap (λ (z : List ℕ). cutIn (l .third) z (count (l .second))) e ∙ third-cut l a b c r p q ∙ g (c ++ r)
+
+    fourth-back : ((z : List ℕ) → cutIn (l .fourth) (c ++ z) 0 ≡ c) → fieldsIn (l .fourth) (byteFrom (l .fourth) (padded 12 f) (count (l .second) + count (l .third))) ≡ c
+    fourth-back g =
+        fields-cut (l .fourth) (padded 12 f) _ ∙ ap (λ (z : List ℕ). cutIn (l .fourth) z (count (l .second) + count (l .third))) e ∙ fourth-cut l a b c r p q ∙ g r
+
+  few-parts : (a b c : List ℕ) → length a ≡ count (l .second) → length b ≡ count (l .third) → length c ≡ count (l .fourth) → length (a ++ (b ++ c)) ≤ 12
+  few-parts a b c p q s = rw (length-append a (b ++ c), length-append b c, p, q, s) (h .few)
+
+  nothing-left : (r : List ℕ) → AllLe r [] → r ≡ []
+  nothing-left [] k = refl
+  nothing-left (n ∷ r) k = absurd k
+
+  three-parts : (f g w a b c r : List ℕ) → f ≡ a ++ g → g ≡ b ++ w → w ≡ c ++ r → r ≡ [] → f ≡ a ++ (b ++ c)
+  three-parts f g w a b c r x y z n =
+      x ∙ ap (λ (t : List ℕ). a ++ t) (y ∙ ap (λ (t : List ℕ). b ++ t) (z ∙ ap (λ (t : List ℕ). c ++ t) n ∙ append-nil c))
+
+  padded-parts : (f a b c : List ℕ) → f ≡ a ++ (b ++ c) → length (a ++ (b ++ c)) ≤ 12 → (r : List ℕ) × (padded 12 f ≡ a ++ (b ++ (c ++ r)))
+  padded-parts f a b c e w = let t = pad-append 12 (a ++ (b ++ c)) w in (t .0, ap (padded 12) e ∙ t .1 ∙ joined-three a b c (t .0))
+
+  -- and all of them
   pub twelve-back : (f : List ℕ) → AllLe f (allMost l)
       → let v : List ℕ = padded 12 f in
       twelve l (byteFrom (l .second) v 0) (byteFrom (l .third) v (count (l .second))) (byteFrom (l .fourth) v (count (l .second) + count (l .third))) ≡ v
@@ -163,19 +190,9 @@ module _ (l : StatusLayout) (h : Lays l) where
       let p = parts (l .second) f (mostIn (l .third) ++ mostIn (l .fourth)) m in
       let q = parts (l .third) (p .1) (mostIn (l .fourth)) (p .4) in
       let s = parts (l .fourth) (q .1) [] (subst (AllLe (q .1)) (sym (append-nil (mostIn (l .fourth)))) (q .4)) in
-      let a = p .0 in
-      let b = q .0 in
-      let c = s .0 in
-      let n = nothing-left (s .1) (s .4) in
-      let e : f ≡ a ++ (b ++ c) = p .2 ∙ ap (λ (z : List ℕ). a ++ z) (q .2 ∙ ap (λ (z : List ℕ). b ++ z) (s .2 ∙ ap (λ (z : List ℕ). c ++ z) n ∙ append-nil c)) in
-      let w : length (a ++ (b ++ c)) ≤ 12 = rw (length-append a (b ++ c), length-append b c, p .3, q .3, s .3) (h .few) in
-      let t = pad-append 12 (a ++ (b ++ c)) w in
-      let v : padded 12 f ≡ a ++ (b ++ (c ++ t .0)) = ap (padded 12) e ∙ t .1 ∙ joined-three a b c (t .0) in
-      let x : fieldsIn (l .second) (byteFrom (l .second) (padded 12 f) 0) ≡ a = fields-cut (l .second) (padded 12 f) 0 ∙ ap (λ (z : List ℕ). cutIn (l .second) z 0) v ∙ p .5 (b ++ (c ++ t .0)) in
-      let y : fieldsIn (l .third) (byteFrom (l .third) (padded 12 f) (count (l .second))) ≡ b = fields-cut (l .third) (padded 12 f) _ ∙ ap (λ (z : List ℕ). cutIn (l .third) z (count (l .second))) v ∙ third-cut l a b c (t .0) (p .3) (q .3) ∙ q .5 (c ++ t .0) in
-      let z : fieldsIn (l .fourth) (byteFrom (l .fourth) (padded 12 f) (count (l .second) + count (l .third))) ≡ c = fields-cut (l .fourth) (padded 12 f) _ ∙ ap (λ (z : List ℕ). cutIn (l .fourth) z (count (l .second) + count (l .third))) v ∙ fourth-cut l a b c (t .0) (p .3) (q .3) ∙ s .5 (t .0) in
+      let e = three-parts f (p .1) (q .1) (p .0) (q .0) (s .0) (s .1) (p .2) (q .2) (s .2) (nothing-left (s .1) (s .4)) in
+      let t = padded-parts f (p .0) (q .0) (s .0) e (few-parts (p .0) (q .0) (s .0) (p .3) (q .3) (s .3)) in
+      let x = second-back f (p .0) (q .0) (s .0) (t .0) (t .1) (p .3) (q .3) (p .5) in
+      let y = third-back f (p .0) (q .0) (s .0) (t .0) (t .1) (p .3) (q .3) (q .5) in
+      let z = fourth-back f (p .0) (q .0) (s .0) (t .0) (t .1) (p .3) (q .3) (s .5) in
       ap (padded 12) ((λ i. x i ++ (y i ++ z i)) ∙ sym e)
-    where
-      nothing-left : (r : List ℕ) → AllLe r [] → r ≡ []
-      nothing-left [] k = refl
-      nothing-left (n ∷ r) k = absurd k

@@ -18,7 +18,7 @@ use Rattle.element.proofs.Facts.{Facts, code-picked, code-judged, code-
 
 pub facts : (k : Kind) → Facts (rulesOf k)
 facts Cooling = record {
-  masked = refl;
+  numbered = refl;
   sound = sound-tested fanLayout refl;
   reserves = λ e. refl;
   judges = λ s r n t. code-picked (isOn s && eqb r 0) false;
@@ -30,7 +30,7 @@ facts Cooling = record {
       (omega arith, (omega arith, (omega arith, (omega arith, (omega arith, (omega arith, (n, tt)))))));
 }
 facts Temperature = record {
-  masked = refl;
+  numbered = refl;
   sound = sound-tested sensorLayout refl;
   reserves = λ e. refl;
   judges = λ s r n t.
@@ -42,7 +42,7 @@ facts Temperature = record {
       (omega arith, (omega arith, (omega arith, (num-small (v .highcrit), (num-small (v .highwarn), (num-small (v .lowcrit), (num-small (v .lowwarn), tt)))))));
 }
 facts Voltage = record {
-  masked = refl;
+  numbered = refl;
   sound = sound-tested sensorLayout refl;
   reserves = λ e. refl;
   judges = λ s r n t.
@@ -53,7 +53,7 @@ facts Voltage = record {
       (omega arith, (omega arith, (num-small (v .highwarn), (num-small (v .lowwarn), (num-small (v .highcrit), (num-small (v .lowcrit), (omega arith, (omega arith, tt))))))));
 }
 facts Current = record {
-  masked = refl;
+  numbered = refl;
   sound = sound-tested sensorLayout refl;
   reserves = λ e. refl;
   judges = λ s r n t. code-judged (over r n (getD t 0 0)) (over r n (getD t 1 0)) false false;

@@ -20,7 +20,7 @@ use Rattle.element.specs.declared.types.Kind.{Kind}
 use Rattle.element.specs.declared.layout.Layout.{Layout}
 use Rattle.element.specs.Layouts.{settingsMask, controlMask}
 use Rattle.element.specs.Thresholds.{thresholdsMask}
-use Rattle.element.specs.Rules.{Masks}
+use Rattle.element.specs.Rules.{Numbers}
 use Rattle.element.specs.Types.{rulesOf, had}
 use Rattle.element.specs.Control.{reservedIn}
 use Rattle.element.proofs.Flags.{mask-small}
@@ -56,27 +56,27 @@ module _ (k : Kind) where
       let h = facts k .sound in
       (omega arith, (mask-small (l .flags1) (h .keeps1), (mask-small (l .flags2) (h .keeps2), (last-small, tt))))
 
-  settings-is : rulesOf k .masks .settings ≡ big (settingsMask l)
-  settings-is = ap (λ (m : Masks). m .settings) (facts k .masked)
+  settings-is : rulesOf k .numbers .settings ≡ big (settingsMask l)
+  settings-is = ap (λ (m : Numbers). m .settings) (facts k .numbered)
 
-  pub settings-small : rulesOf k .masks .settings < 2147483648
+  pub settings-small : rulesOf k .numbers .settings < 2147483648
   settings-small = let b = settings-bytes in let e = settings-is in omega (arith, b .1 .0, b .1 .1 .0, b .1 .1 .1 .0)
 
   -- with SELECT
-  pub control-four : bytes 4 (2147483648 + rulesOf k .masks .settings) ≡ controlMask l
+  pub control-four : bytes 4 (2147483648 + rulesOf k .numbers .settings) ≡ controlMask l
   control-four =
       let e : 2147483648 + big (settingsMask l) ≡ big (controlMask l) = omega arith in
       ap (λ (n : ℕ). bytes 4 (2147483648 + n)) settings-is ∙ ap (bytes 4) e ∙ bytes-big (controlMask l) control-bytes
 
-  pub reserved-outside : (e : List ℕ) → firstOutside (bytes 4 (2147483648 + rulesOf k .masks .settings)) e ≡ reservedIn k e
+  pub reserved-outside : (e : List ℕ) → firstOutside (bytes 4 (2147483648 + rulesOf k .numbers .settings)) e ≡ reservedIn k e
   unfolding reservedIn
   reserved-outside e = ap (λ (m : List ℕ). firstOutside m e) control-four ∙ sym (facts k .reserves e)
 
-  pub settings-within : (e : List ℕ) → Bytes (fourAt e 0) → within (rulesOf k .masks .settings) (big (fourAt e 0)) ≡ allWithin (settingsMask l) e
+  pub settings-within : (e : List ℕ) → Bytes (fourAt e 0) → within (rulesOf k .numbers .settings) (big (fourAt e 0)) ≡ allWithin (settingsMask l) e
   settings-within e h =
       ap (λ (n : ℕ). within n (big (fourAt e 0))) settings-is ∙ within-four _ _ _ _ _ _ _ _ settings-bytes h
 
-  pub thresholds-within : (t : List ℕ) → Bytes (fourAt t 0) → within (rulesOf k .masks .thresholds) (big (fourAt t 0)) ≡ had k t
+  pub thresholds-within : (t : List ℕ) → Bytes (fourAt t 0) → within (rulesOf k .numbers .thresholds) (big (fourAt t 0)) ≡ had k t
   unfolding had
   thresholds-within t h =
       let n = rulesOf k .thresholds in
@@ -85,6 +85,6 @@ module _ (k : Kind) where
       let q = byte-within (ltb 1 n) (getD t 1 0) (h .1 .0) in
       let r = byte-within (ltb 2 n) (getD t 2 0) (h .1 .1 .0) in
       let s = byte-within (ltb 3 n) (getD t 3 0) (h .1 .1 .1 .0) in
-      ap (λ (x : Masks). within (x .thresholds) (big (fourAt t 0))) (facts k .masked)
+      ap (λ (x : Numbers). within (x .thresholds) (big (fourAt t 0))) (facts k .numbered)
       ∙ within-four _ _ _ _ _ _ _ _ m h
       ∙ (λ i. ((p i && q i) && r i) && s i)

@@ -20,11 +20,11 @@ use Rattle.bits.proofs.Masks.{within-four}
 use Rattle.bits.proofs.Widths.{bytes-big}
 use Rattle.element.specs.declared.types.Kind.{Kind}
 use Rattle.element.specs.StatusLayout.{Piece, StatusLayout, field, reserved, size, mostIn, mostOf, padded, twelve, fieldMask, shiftsOf, cuts, puts, three, holds, fit}
-use Rattle.element.specs.Rules.{Masks, codeAllowed, firstClear, shownMask}
+use Rattle.element.specs.Rules.{Numbers, codeAllowed, firstClear, shownMask}
 use Rattle.element.specs.Types.{rulesOf}
 use Rattle.element.specs.Status.{headOf, entryIn, statusOffending, mostShown, mostOverall}
 use Rattle.element.proofs.StatusBothWays.{Lays}
-use Rattle.element.proofs.Shapes.{twelve-cut, three-back}
+use Rattle.element.proofs.Shapes.{twelve-cut, three-back, shift-small, listed, shifts-listed, mosts-listed}
 use Rattle.element.proofs.TypeFacts.{facts}
 
 -- the entry, and the bytes, by the places of the fields
@@ -176,15 +176,15 @@ module _ (p q r : ℕ) (m x : List ℕ) (o : Ones (15 ∷ p ∷ q ∷ r ∷ m)) 
   fit-words = both-ways (words && leb (getD x 0 0) 8) (fit most x 16) fit-out fit-in
 
 module _ (k : Kind) (x : List ℕ) (h : (i : ℕ) → i < 16 → getD x i 0 < 256) where
-  abbrev m : Masks
-  m = rulesOf k .masks
+  abbrev m : Numbers
+  m = rulesOf k .numbers
 
   pub fits-words : (((within 0x0f010101 (big (fourAt x 0)) && within (m .shownFirst) (big (fourAt x 4))) && within (m .shownNext) (big (fourAt x 8))) && within (m .shownLast) (big (fourAt x 12))) && leb (getD x 0 0) 8 ≡ fit (mostShown k) x 16
   unfolding mostShown
   fits-words =
       let one : (w : ℕ) × (w ≤ 8) × (1 ≡ 2 ^ w - 1) = (1, omega arith, refl) in
       let o : Ones (15 ∷ 1 ∷ 1 ∷ 1 ∷ mostOf (rulesOf k .status)) = ((4, omega arith, refl), (one, (one, (one, all-ones (rulesOf k .status) (facts k .lays))))) in
-      ap (λ (n : Masks). (((within 0x0f010101 (big (fourAt x 0)) && within (n .shownFirst) (big (fourAt x 4))) && within (n .shownNext) (big (fourAt x 8))) && within (n .shownLast) (big (fourAt x 12))) && leb (getD x 0 0) 8) (facts k .masked)
+      ap (λ (n : Numbers). (((within 0x0f010101 (big (fourAt x 0)) && within (n .shownFirst) (big (fourAt x 4))) && within (n .shownNext) (big (fourAt x 8))) && within (n .shownLast) (big (fourAt x 12))) && leb (getD x 0 0) 8) (facts k .numbered)
       ∙ fit-words 1 1 1 (mostOf (rulesOf k .status)) x o h
 
 pub overall-words : (x : List ℕ) → ((i : ℕ) → i < 16 → getD x i 0 < 256)
@@ -215,24 +215,61 @@ module _ (k : Kind) where
       let h = facts k .lays in
       (omega arith, (byte-mask (l .second) (h .second .eight), (byte-mask (l .third) (h .third .eight), (byte-mask (l .fourth) (h .fourth .eight), tt))))
 
-  shown-is : rulesOf k .masks .shown ≡ big (shownMask l)
-  shown-is = ap (λ (m : Masks). m .shown) (facts k .masked)
+  shown-is : rulesOf k .numbers .shown ≡ big (shownMask l)
+  shown-is = ap (λ (m : Numbers). m .shown) (facts k .numbered)
 
-  pub shown-four : bytes 4 (rulesOf k .masks .shown) ≡ shownMask l
+  pub shown-four : bytes 4 (rulesOf k .numbers .shown) ≡ shownMask l
   shown-four = ap (bytes 4) shown-is ∙ bytes-big (shownMask l) shown-bytes
 
   module _ (e : List ℕ) where
-    pub none-hidden : Bytes (fourAt e 0) → within (rulesOf k .masks .shown) (big (fourAt e 0)) && codeAllowed (getD e 0 0 % 16) ≡ true → 4 ≡ statusOffending k e
+    pub none-hidden : Bytes (fourAt e 0) → within (rulesOf k .numbers .shown) (big (fourAt e 0)) && codeAllowed (getD e 0 0 % 16) ≡ true → 4 ≡ statusOffending k e
     unfolding statusOffending
     none-hidden h t =
-        let c = and-right (within (rulesOf k .masks .shown) (big (fourAt e 0))) (codeAllowed (getD e 0 0 % 16)) t in
-        let s = and-left (within (rulesOf k .masks .shown) (big (fourAt e 0))) (codeAllowed (getD e 0 0 % 16)) t in
+        let c = and-right (within (rulesOf k .numbers .shown) (big (fourAt e 0))) (codeAllowed (getD e 0 0 % 16)) t in
+        let s = and-left (within (rulesOf k .numbers .shown) (big (fourAt e 0))) (codeAllowed (getD e 0 0 % 16)) t in
         let q : within (big (shownMask l)) (big (fourAt e 0)) ≡ true = ap (λ (n : ℕ). within n (big (fourAt e 0))) (sym shown-is) ∙ s in
         let w = and-four (only (6 ∷ 5 ∷ 4 ∷ 3 ∷ 2 ∷ 1 ∷ 0 ∷ []) (getD e 0 0)) (within (fieldMask (l .second)) (getD e 1 0)) (within (fieldMask (l .third)) (getD e 2 0)) (within (fieldMask (l .fourth)) (getD e 3 0)) (sym (within-four _ _ _ _ _ _ _ _ shown-bytes h) ∙ q) in
         sym (facts k .hides e ∙ four-pass (and-both (w .0) c) (w .1) (w .2) (w .3))
 
-    pub first-hidden : firstOf (firstClear (getD e 0 0)) (within (getD (bytes 4 (rulesOf k .masks .shown)) 1 0) (getD e 1 0)) (within (getD (bytes 4 (rulesOf k .masks .shown)) 2 0) (getD e 2 0)) (within (getD (bytes 4 (rulesOf k .masks .shown)) 3 0) (getD e 3 0)) ≡ statusOffending k e
+    pub first-hidden : firstOf (firstClear (getD e 0 0)) (within (getD (bytes 4 (rulesOf k .numbers .shown)) 1 0) (getD e 1 0)) (within (getD (bytes 4 (rulesOf k .numbers .shown)) 2 0) (getD e 2 0)) (within (getD (bytes 4 (rulesOf k .numbers .shown)) 3 0) (getD e 3 0)) ≡ statusOffending k e
     unfolding statusOffending
     first-hidden =
         ap (λ (m : List ℕ). firstOf (firstClear (getD e 0 0)) (within (getD m 1 0) (getD e 1 0)) (within (getD m 2 0) (getD e 2 0)) (within (getD m 3 0) (getD e 3 0))) shown-four
         ∙ sym (facts k .hides e)
+
+-- the numbers that four fields each have
+module _ (k : Kind) where
+  abbrev shifts : List ℕ
+  shifts = shiftsOf (rulesOf k .status)
+
+  abbrev mosts : List ℕ
+  mosts = mostOf (rulesOf k .status)
+
+  shifts-word : (i : ℕ) → bytes 4 (big (fourAt shifts i)) ≡ fourAt shifts i
+  shifts-word i =
+      let h = facts k .lays in
+      let a : (j : ℕ) → getD shifts j 0 < 256 = λ j. shift-small (rulesOf k .status) j (h .second .eight) (h .third .eight) (h .fourth .eight) in
+      bytes-big (fourAt shifts i) (a i, (a (i + 1), (a (i + 2), (a (i + 3), tt))))
+
+  mosts-word : (i : ℕ) → bytes 4 (big (fourAt mosts i)) ≡ fourAt mosts i
+  mosts-word i =
+      let o = all-ones (rulesOf k .status) (facts k .lays) in
+      bytes-big (fourAt mosts i) (ones-small mosts o i, (ones-small mosts o (i + 1), (ones-small mosts o (i + 2), (ones-small mosts o (i + 3), tt))))
+
+  abbrev n : Numbers
+  n = rulesOf k .numbers
+
+  -- four fields at once, of any that are made by the lowest bits and the most that each holds
+  module _ {A : Type 0} (make : List ℕ → List ℕ → A) where
+    pub first-word : make (bytes 4 (n .shiftsFirst)) (bytes 4 (n .shownFirst)) ≡ make (fourAt shifts 0) (fourAt mosts 0)
+    first-word = ap (λ (m : Numbers). make (bytes 4 (m .shiftsFirst)) (bytes 4 (m .shownFirst))) (facts k .numbered) ∙ (λ i. make (shifts-word 0 i) (mosts-word 0 i))
+
+    pub next-word : make (bytes 4 (n .shiftsNext)) (bytes 4 (n .shownNext)) ≡ make (fourAt shifts 4) (fourAt mosts 4)
+    next-word = ap (λ (m : Numbers). make (bytes 4 (m .shiftsNext)) (bytes 4 (m .shownNext))) (facts k .numbered) ∙ (λ i. make (shifts-word 4 i) (mosts-word 4 i))
+
+    pub last-word : make (bytes 4 (n .shiftsLast)) (bytes 4 (n .shownLast)) ≡ make (fourAt shifts 8) (fourAt mosts 8)
+    last-word = ap (λ (m : Numbers). make (bytes 4 (m .shiftsLast)) (bytes 4 (m .shownLast))) (facts k .numbered) ∙ (λ i. make (shifts-word 8 i) (mosts-word 8 i))
+
+    -- and all twelve
+    pub twelve-listed : make shifts mosts ≡ make (listed shifts 0 12) (listed mosts 0 12)
+    twelve-listed = λ i. make (shifts-listed (rulesOf k .status) i) (mosts-listed (rulesOf k .status) i)

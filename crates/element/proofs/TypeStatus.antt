@@ -19,14 +19,10 @@ use Rattle.element.specs.StatusLayout.{StatusLayout, fieldMask, fieldsIn
 use Rattle.element.specs.Rules.{codeAllowed, firstClear, unshown}
 use Rattle.element.specs.Types.{rulesOf, layoutOf, readingAllowed, verdictOf}
 use Rattle.element.specs.Status.{headOf, firstByte, entryOf, statusBytes, entryBy, shownBy, statusOffending, mostShown, overallOffending, codeAlone, mostOverall}
+use Rattle.element.proofs.Pieces.{length-padded}
 use Rattle.element.proofs.StatusBothWays.{byte-clear, three-behind, bytes-again, twelve-fit, twelve-back}
 use Rattle.element.proofs.StoredSettings.{Storable}
 use Rattle.element.proofs.TypeFacts.{facts}
-
-length-padded : (n : ℕ) (v : List ℕ) → length (padded n v) ≡ n
-length-padded zero v = refl
-length-padded (suc n) [] = ap suc (length-padded n [])
-length-padded (suc n) (x ∷ v) = ap suc (length-padded n v)
 
 -- byte 0, each way round
 first-again : (a : ℕ) → a < 256 → firstClear a ≡ true → firstByte (headOf a) ≡ a

@@ -14,7 +14,7 @@ use Rattle.element.specs.declared.settings.Settings.{Settings}
 use Rattle.element.specs.declared.verdict.Verdict.{Verdict}
 use Rattle.element.specs.Layouts.{settingsMask}
 use Rattle.element.specs.Thresholds.{thresholdsMask}
-use Rattle.element.specs.StatusLayout.{StatusLayout, fieldMask, mostOf}
+use Rattle.element.specs.StatusLayout.{StatusLayout, fieldMask, mostOf, shiftsOf}
 
 -- codes 0 to 8
 abbrev pub codeAllowed : ℕ → Bool
@@ -36,23 +36,29 @@ unshown l e =
     (within (fieldMask (l .third)) (getD e 2 0))
     (within (fieldMask (l .fourth)) (getD e 3 0))
 
--- The bits that bytes may have, as the numbers that four bytes each say: of settings, of a status element, of the twelve bytes of an entry
--- which the type lays out, and of thresholds.
-pub record Masks : Type 0 where
+-- What the code is told of a type, as the numbers that four bytes each say: the bits that bytes may have, of settings, of a status element,
+-- of the twelve bytes of an entry which the type lays out, and of thresholds; and the lowest bit of each of the twelve in the status element.
+pub record Numbers : Type 0 where
   pub settings : ℕ
   pub shown : ℕ
   pub shownFirst : ℕ
   pub shownNext : ℕ
   pub shownLast : ℕ
+  pub shiftsFirst : ℕ
+  pub shiftsNext : ℕ
+  pub shiftsLast : ℕ
   pub thresholds : ℕ
 
-abbrev pub masksOf : Layout → StatusLayout → ℕ → Masks
-masksOf l s n = record {
+abbrev pub numbersOf : Layout → StatusLayout → ℕ → Numbers
+numbersOf l s n = record {
   settings = big (settingsMask l);
   shown = big (shownMask s);
   shownFirst = big (fourAt (mostOf s) 0);
   shownNext = big (fourAt (mostOf s) 4);
   shownLast = big (fourAt (mostOf s) 8);
+  shiftsFirst = big (fourAt (shiftsOf s) 0);
+  shiftsNext = big (fourAt (shiftsOf s) 4);
+  shiftsLast = big (fourAt (shiftsOf s) 8);
   thresholds = big (thresholdsMask n);
 }
 
@@ -76,5 +82,5 @@ pub record Rules : Type 0 where
   pub status : StatusLayout
   pub statusOffence : List ℕ → ℕ
   pub fields : Settings → Verdict → ℕ → List ℕ
-  -- what follows from these for the bits that bytes may have
-  pub masks : Masks
+  -- what the code is told of these
+  pub numbers : Numbers

@@ -14,7 +14,7 @@ use Rattle.element.specs.declared.types.Kind.the-variants.{Cooling, Temp
 use Rattle.element.specs.Layouts.{unnamed}
 use Rattle.element.specs.Verdict.{fanVerdict, temperatureVerdict, voltageVerdict, currentVerdict}
 use Rattle.element.specs.StatusLayout.{StatusLayout, flag, field, reserved}
-use Rattle.element.specs.Rules.{Rules, unshown, masksOf}
+use Rattle.element.specs.Rules.{Rules, unshown, numbersOf}
 use Rattle.element.specs.Thresholds.{highOrdered, lowOrdered, byteHad}
 
 -- Cooling (03h): a fan
@@ -54,7 +54,7 @@ cooling = record {
   status = fanStatus;
   statusOffence = unshown fanStatus;
   fields = fanFields;
-  masks = masksOf fanLayout fanStatus 0;
+  numbers = numbersOf fanLayout fanStatus 0;
 }
 
 -- what the three sensors share
@@ -97,7 +97,7 @@ temperature = record {
   status = temperatureStatus;
   statusOffence = unshown temperatureStatus;
   fields = temperatureFields;
-  masks = masksOf sensorLayout temperatureStatus 4;
+  numbers = numbersOf sensorLayout temperatureStatus 4;
 }
 
 -- Voltage Sensor (12h)
@@ -136,7 +136,7 @@ voltage = record {
   status = voltageStatus;
   statusOffence = unshown voltageStatus;
   fields = voltageFields;
-  masks = masksOf sensorLayout voltageStatus 4;
+  numbers = numbersOf sensorLayout voltageStatus 4;
 }
 
 -- Current Sensor (13h)
@@ -166,7 +166,7 @@ current = record {
   status = currentStatus;
   statusOffence = unshown currentStatus;
   fields = currentFields;
-  masks = masksOf sensorLayout currentStatus 2;
+  numbers = numbersOf sensorLayout currentStatus 2;
 }
 
 -- the types by name

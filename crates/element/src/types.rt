@@ -59,7 +59,7 @@ impl Kind {
 
     // The bits that settings have, as the number that four bytes say.
     pub fn settings(self) -> u32
-        ensures { λ r. ⌜ r ≡ rulesOf self .masks .settings ⌝ }
+        ensures { λ r. ⌜ r ≡ rulesOf self .numbers .settings ⌝ }
     {
         match self {
             Kind::Cooling => 0x70800067,
@@ -116,7 +116,7 @@ impl Kind {
 
     // The bits that the four bytes of a status element may have.
     pub fn shown(self) -> u32
-        ensures { λ r. ⌜ r ≡ rulesOf self .masks .shown ⌝ }
+        ensures { λ r. ⌜ r ≡ rulesOf self .numbers .shown ⌝ }
     {
         match self {
             Kind::Cooling => 0x7f87ff77,
@@ -128,7 +128,7 @@ impl Kind {
 
     // Those that the twelve bytes of an entry may have which the type lays out: the first four of them, the next, the last.
     pub fn shown_first(self) -> u32
-        ensures { λ r. ⌜ r ≡ rulesOf self .masks .shownFirst ⌝ }
+        ensures { λ r. ⌜ r ≡ rulesOf self .numbers .shownFirst ⌝ }
     {
         match self {
             Kind::Cooling => 0x0107ff01,
@@ -139,7 +139,7 @@ impl Kind {
     }
 
     pub fn shown_next(self) -> u32
-        ensures { λ r. ⌜ r ≡ rulesOf self .masks .shownNext ⌝ }
+        ensures { λ r. ⌜ r ≡ rulesOf self .numbers .shownNext ⌝ }
     {
         match self {
             Kind::Cooling => 0x01010700,
@@ -150,7 +150,41 @@ impl Kind {
     }
 
     pub fn shown_last(self) -> u32
-        ensures { λ r. ⌜ r ≡ rulesOf self .masks .shownLast ⌝ }
+        ensures { λ r. ⌜ r ≡ rulesOf self .numbers .shownLast ⌝ }
+    {
+        match self {
+            Kind::Cooling => 0,
+            Kind::Temperature => 0,
+            Kind::Voltage => 0,
+            Kind::Current => 0,
+        }
+    }
+
+    // The lowest bit of each of these in the number that the four bytes of the status element say; 0 behind the last.
+    pub fn shifts_first(self) -> u32
+        ensures { λ r. ⌜ r ≡ rulesOf self .numbers .shiftsFirst ⌝ }
+    {
+        match self {
+            Kind::Cooling => 0x17100806,
+            Kind::Temperature => 0x17160803,
+            Kind::Voltage => 0x17161312,
+            Kind::Current => 0x17161311,
+        }
+    }
+
+    pub fn shifts_next(self) -> u32
+        ensures { λ r. ⌜ r ≡ rulesOf self .numbers .shiftsNext ⌝ }
+    {
+        match self {
+            Kind::Cooling => 0x05040000,
+            Kind::Temperature => 0x02010000,
+            Kind::Voltage => 0x11100800,
+            Kind::Current => 0x08000000,
+        }
+    }
+
+    pub fn shifts_last(self) -> u32
+        ensures { λ r. ⌜ r ≡ rulesOf self .numbers .shiftsLast ⌝ }
     {
         match self {
             Kind::Cooling => 0,
@@ -162,7 +196,7 @@ impl Kind {
 
     // The bits that the four threshold bytes may have.
     pub fn thresholds(self) -> u32
-        ensures { λ r. ⌜ r ≡ rulesOf self .masks .thresholds ⌝ }
+        ensures { λ r. ⌜ r ≡ rulesOf self .numbers .thresholds ⌝ }
     {
         match self {
             Kind::Cooling => 0,

@@ -1,7 +1,7 @@
 -- Byte 0 of a status element, flags side by side in one byte, and entries by the places of their fields. Assumes nothing.
-use mathlib.Core.Path.{_≡_, refl, ap, _∙_}
+use mathlib.Core.Path.{_≡_, refl, sym, ap, _∙_}
 use mathlib.Core.Bool.{Bool, true, false, _&&_}
-use mathlib.Core.List.{List, [], _∷_}
+use mathlib.Core.List.{List, [], _∷_, _++_}
 use Prim.Native.Nat.{ℕ, _+_, _*_, _/_, _%_, _<_}
 use native.Mathlib.Nat.{mod-eq-of-lt, add-assoc}
 use native.Mathlib.Omega.{arith}
@@ -9,15 +9,16 @@ use lib.Dec.{leb}
 use lib.ListN.{getD}
 use Rattle.bits.specs.Bits.{num, bitOf, nibble, join}
 use Rattle.bits.proofs.Halves.{nibble-small}
-use Rattle.bits.specs.Numbers.{bytes}
+use Rattle.bits.specs.Places.{fourAt}
+use Rattle.bits.specs.Numbers.{big, bytes, Bytes}
 use Rattle.element.specs.declared.types.Kind.{Kind}
-use Rattle.element.specs.StatusLayout.{StatusLayout, mostOf, shiftsOf, puts, fit}
-use Rattle.element.specs.Rules.{Masks}
+use Rattle.element.specs.StatusLayout.{mostOf, shiftsOf, cuts, puts, fit}
+use Rattle.element.specs.Rules.{Numbers}
 use Rattle.element.specs.Types.{rulesOf}
-use Rattle.element.specs.Status.{firstByte, bytesIn, mostShown, mostOverall}
-use Rattle.element.proofs.StatusBothWays.{Lays}
-use Rattle.element.proofs.TypeShapes.{bytes-put, fits-words, overall-words}
-use Rattle.element_status.specs.Shapes.{wordsWithin}
+use Rattle.element.specs.Status.{headOf, firstByte, entryOf, statusBytes, mostShown, mostOverall}
+use Rattle.element.proofs.TypeFacts.{facts}
+use Rattle.element.proofs.TypeShapes.{entry-cut, bytes-put, first-word, next-word, last-word, twelve-listed, fits-words, overall-words}
+use Rattle.element_status.specs.Words.{fourPut, numberOf, wordsWithin}
 
 first-made : (p d w : Bool) (n : ℕ) → join (nibble false p d w) n ≡ firstByte (n ∷ num p ∷ num d ∷ num w ∷ [])
 first-made true true true n = refl
@@ -68,14 +69,46 @@ limits-made f a b c d {l} {x} p q =
     let m : l % 16 ≡ n = ap (λ (z : ℕ). z % 16) p ∙ mod-eq-of-lt (nibble-small a b c d) ∙ nibble-is a b c d in
     q ∙ (λ i. h i + m i) ∙ add-assoc (bitOf 7 f % 2 * 128) (bitOf 6 f % 2 * 64) n
 
--- the four bytes by the places of the fields
-pub shaped-bytes : (l : StatusLayout) → Lays l → (x : List ℕ)
-    → let e : List ℕ = bytes 4 (puts (shiftsOf l) (mostOf l) x 4) in firstByte x ∷ getD e 1 0 ∷ getD e 2 0 ∷ getD e 3 0 ∷ [] ≡ bytesIn l x
-shaped-bytes l h x = ap (λ (e : List ℕ). firstByte x ∷ getD e 1 0 ∷ getD e 2 0 ∷ getD e 3 0 ∷ []) (bytes-put l h x)
+-- an entry four fields by four, as cut out of the number that four bytes say
+pub entry-made : (k : Kind) (e a b c : List ℕ) → Bytes (fourAt e 0)
+    → let m : Numbers = rulesOf k .numbers in let n : ℕ = big (fourAt e 0) in
+    a ≡ cuts n (bytes 4 (m .shiftsFirst)) (bytes 4 (m .shownFirst)) → b ≡ cuts n (bytes 4 (m .shiftsNext)) (bytes 4 (m .shownNext))
+    → c ≡ cuts n (bytes 4 (m .shiftsLast)) (bytes 4 (m .shownLast)) → headOf (getD e 0 0) ++ (fourAt a 0 ++ (fourAt b 0 ++ fourAt c 0)) ≡ entryOf k e
+unfolding entryOf
+entry-made k e a b c h p q r =
+    let n = big (fourAt e 0) in
+    let x = p ∙ first-word k (cuts n) in
+    let y = q ∙ next-word k (cuts n) in
+    let z = r ∙ last-word k (cuts n) in
+    (λ i. headOf (getD e 0 0) ++ (fourAt (x i) 0 ++ (fourAt (y i) 0 ++ fourAt (z i) 0)))
+    ∙ sym (twelve-listed k (λ s m. headOf (getD e 0 0) ++ cuts n s m))
+    ∙ entry-cut (rulesOf k .status) (facts k .lays) e h
+
+-- and as put onto one
+pub number-made : (k : Kind) (x : List ℕ) {a b c : ℕ}
+    → let m : Numbers = rulesOf k .numbers in
+    a ≡ fourPut (fourAt x 12) (bytes 4 (m .shiftsLast)) (bytes 4 (m .shownLast)) 0 → b ≡ fourPut (fourAt x 8) (bytes 4 (m .shiftsNext)) (bytes 4 (m .shownNext)) a
+    → c ≡ fourPut (fourAt x 4) (bytes 4 (m .shiftsFirst)) (bytes 4 (m .shownFirst)) b → c ≡ numberOf k x
+unfolding numberOf
+number-made k x {a} {b} {c} p q r =
+    let u = p ∙ last-word k (λ s m. fourPut (fourAt x 12) s m 0) in
+    let v = q ∙ next-word k (λ s m. fourPut (fourAt x 8) s m a) in
+    let w = r ∙ first-word k (λ s m. fourPut (fourAt x 4) s m b) in
+    let l = rulesOf k .status in
+    w
+    ∙ ap (fourPut (fourAt x 4) (fourAt (shiftsOf l) 0) (fourAt (mostOf l) 0)) (v ∙ ap (fourPut (fourAt x 8) (fourAt (shiftsOf l) 4) (fourAt (mostOf l) 4)) u)
+    ∙ sym (twelve-listed k (λ s m. puts s m x 4))
+
+-- the four bytes that show it
+pub bytes-made : (k : Kind) (x : List ℕ) {n : ℕ} {e : List ℕ} → n ≡ numberOf k x → e ≡ bytes 4 n
+    → firstByte x ∷ getD e 1 0 ∷ getD e 2 0 ∷ getD e 3 0 ∷ [] ≡ statusBytes k x
+unfolding numberOf statusBytes
+bytes-made k x p q =
+    ap (λ (e : List ℕ). firstByte x ∷ getD e 1 0 ∷ getD e 2 0 ∷ getD e 3 0 ∷ []) (q ∙ ap (bytes 4) p ∙ bytes-put (rulesOf k .status) (facts k .lays) x)
 
 -- and what an entry may have, four bytes by four
 module _ (x : List ℕ) (h : (i : ℕ) → i < 16 → getD x i 0 < 256) where
-  pub words-fit : (k : Kind) → let m : Masks = rulesOf k .masks in wordsWithin x 0x0f010101 (m .shownFirst) (m .shownNext) (m .shownLast) && leb (getD x 0 0) 8 ≡ fit (mostShown k) x 16
+  pub words-fit : (k : Kind) → let m : Numbers = rulesOf k .numbers in wordsWithin x 0x0f010101 (m .shownFirst) (m .shownNext) (m .shownLast) && leb (getD x 0 0) 8 ≡ fit (mostShown k) x 16
   unfolding wordsWithin
   words-fit k = fits-words k x h
 

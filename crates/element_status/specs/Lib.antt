@@ -1,1 +1,1 @@
-pub mod Shapes
+pub mod Words

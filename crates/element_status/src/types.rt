@@ -1,6 +1,5 @@
-// What may be stored of an element of each type, what it shows of that, and the shape of its entry.
+// What may be stored of an element of each type, what it shows of that, and its entry.
 use crate::fields;
-use crate::fields::Shape;
 use element::settings;
 use element::settings::Settings;
 use element::types::Kind;
@@ -15,26 +14,7 @@ ghost use Rattle.element.specs.declared.types.Kind.the-variants.{Cooling, Tempe
 ghost use Rattle.element.specs.Verdict.{fanVerdict, temperatureVerdict, voltageVerdict, currentVerdict};
 ghost use Rattle.element.specs.Types.{isOn, fanStatus, fanFields, temperatureStatus, temperatureFields, voltageStatus, voltageFields, currentStatus, currentFields};
 ghost use Rattle.element.specs.Status.{firstByte, entryOf, statusBytes, shownBy, statusWith};
-
-const COOLING: Shape = Shape {
-    shift: [23, 16, 8, 6, 5, 4, 0, 0, 0, 0, 0, 0],
-    most: [1, 7, 255, 1, 1, 1, 7, 0, 0, 0, 0, 0],
-};
-
-const TEMPERATURE: Shape = Shape {
-    shift: [23, 22, 8, 3, 2, 1, 0, 0, 0, 0, 0, 0],
-    most: [1, 1, 255, 1, 1, 1, 1, 0, 0, 0, 0, 0],
-};
-
-const VOLTAGE: Shape = Shape {
-    shift: [23, 22, 19, 18, 17, 16, 8, 0, 0, 0, 0, 0],
-    most: [1, 1, 1, 1, 1, 1, 255, 255, 0, 0, 0, 0],
-};
-
-const CURRENT: Shape = Shape {
-    shift: [23, 22, 19, 17, 8, 0, 0, 0, 0, 0, 0, 0],
-    most: [1, 1, 1, 1, 255, 255, 0, 0, 0, 0, 0, 0],
-};
+ghost use Rattle.element_status.specs.Words.{numberOf};
 
 // What is stored of an element is what its type may have. One function for all types, which the compiler makes again for each.
 pub fn are_formed(kind: Kind, stored: [u8; 4], t: [u8; 4], reading: u16, nominal: u16) -> bool
@@ -75,10 +55,10 @@ pub fn entry(kind: Kind, e: [u8; 4]) -> [u8; 16]
     ensures { λ r. ⌜ r ≡ entryOf kind e ⌝ }
 {
     match kind {
-        Kind::Cooling => fields::entry_in(COOLING, e),
-        Kind::Temperature => fields::entry_in(TEMPERATURE, e),
-        Kind::Voltage => fields::entry_in(VOLTAGE, e),
-        Kind::Current => fields::entry_in(CURRENT, e),
+        Kind::Cooling => fields::entry_as(Kind::Cooling, e),
+        Kind::Temperature => fields::entry_as(Kind::Temperature, e),
+        Kind::Voltage => fields::entry_as(Kind::Voltage, e),
+        Kind::Current => fields::entry_as(Kind::Current, e),
     }
 }
 
@@ -86,11 +66,23 @@ pub fn entry(kind: Kind, e: [u8; 4]) -> [u8; 16]
 pub fn bytes(kind: Kind, x: [u8; 16]) -> [u8; 4]
     ensures { λ r. ⌜ r ≡ statusBytes kind x ⌝ }
 {
+    let e = bits::four_of(number(kind, x));
+    [
+        x[1] % 2 * 64 + x[2] % 2 * 32 + x[3] % 2 * 16 + x[0] % 16,
+        e[1],
+        e[2],
+        e[3],
+    ]
+}
+
+fn number(kind: Kind, x: [u8; 16]) -> u32
+    ensures { λ r. ⌜ r ≡ numberOf kind x ⌝ }
+{
     match kind {
-        Kind::Cooling => fields::bytes_in(COOLING, x),
-        Kind::Temperature => fields::bytes_in(TEMPERATURE, x),
-        Kind::Voltage => fields::bytes_in(VOLTAGE, x),
-        Kind::Current => fields::bytes_in(CURRENT, x),
+        Kind::Cooling => fields::number_as(Kind::Cooling, x),
+        Kind::Temperature => fields::number_as(Kind::Temperature, x),
+        Kind::Voltage => fields::number_as(Kind::Voltage, x),
+        Kind::Current => fields::number_as(Kind::Current, x),
     }
 }
 

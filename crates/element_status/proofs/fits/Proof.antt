@@ -7,7 +7,7 @@ use lib.Dec.{leb}
 use lib.ListN.{getD}
 use mir.Val.{Fits}
 use mir.Syntax.{w8}
-use Rattle.element_status.specs.Shapes.{wordsWithin}
+use Rattle.element_status.specs.Words.{wordsWithin}
 use Rattle.element_status.proofs.ByteLaws.{words-fit}
 use borrow.Author.Needs.{needs}
 use Rattle.element_status.proofs.fits.Statement.{statement}

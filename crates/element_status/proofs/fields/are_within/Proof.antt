@@ -1,5 +1,5 @@
 -- `element_status::fields::are_within` meets its contract. Assumes nothing.
-use Rattle.element_status.specs.Shapes.{wordsWithin}
+use Rattle.element_status.specs.Words.{wordsWithin}
 use mathlib.Core.Bool.{_&&_}
 use borrow.Author.Needs.{needs}
 use Rattle.element_status.proofs.fields.are_within.Statement.{statement}

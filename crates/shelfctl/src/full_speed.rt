@@ -2,11 +2,11 @@
 use crate::applying;
 use crate::applying::Act;
 use crate::building;
-use crate::builtin;
-use crate::changes;
 use crate::pages;
 use crate::pages::Page;
-use crate::settings;
+use tool_shelf::builtin;
+use tool_shelf::changes;
+use tool_shelf::settings;
 
 // What is wanted and the page for it, between the status before and after; then the fans in words, and which bytes of
 // the block changed.

@@ -5,16 +5,15 @@
 mod answer;
 mod applying;
 mod building;
-mod builtin;
-mod changes;
-mod files;
 mod full_speed;
 mod pages;
-mod settings;
 
 use crate::applying::Act;
 use crate::pages::Page;
 use libc::STDERR_FILENO;
+use tool_shelf::builtin;
+use tool_shelf::files;
+use tool_shelf::settings;
 
 // Which argument PAGE or WANTED is, of a command that takes one.
 const INPUT_PLACE: u8 = 2;
@@ -139,7 +138,7 @@ fn tell(command: Command, shelf: &mut [u8]) {
             tell_checked(shelf);
         }
         Command::Page(page) => pages::tell(page, shelf),
-        Command::Settings => settings::tell(shelf),
+        Command::Settings => tell_settings(shelf),
         Command::Build => build(shelf),
         Command::Apply(act) => apply(act, shelf),
     }
@@ -155,6 +154,14 @@ fn tell_contents(shelf: &[u8]) {
 fn tell_checked(shelf: &[u8]) -> bool {
     let answer = ses::check(shelf);
     answer::tell(answer, b"shelf: well formed\n")
+}
+
+// In the form of a wanted list, or the refusal.
+fn tell_settings(shelf: &[u8]) {
+    let answer = ses::check(shelf);
+    if answer::tell(answer, b"") {
+        settings::show(shelf);
+    }
 }
 
 fn build(shelf: &[u8]) {

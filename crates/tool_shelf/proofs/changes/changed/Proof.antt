@@ -1,10 +1,10 @@
--- `shelfctl::changes::changed` is safe and ends.
+-- `tool_shelf::changes::changed` is safe and ends.
 use mathlib.Core.Logic.{⊎-elim}
 use Prim.Native.Nat.{_-_, _≤_}
 use native.Mathlib.Omega.{arith}
 use borrow.Author.Needs.{needs}
-use Rattle.shelfctl.proofs.changes.changed.Statement.{statement}
-use Rattle.shelfctl.proofs.changes.changed.Tie as tie
+use Rattle.tool_shelf.proofs.changes.changed.Statement.{statement}
+use Rattle.tool_shelf.proofs.changes.changed.Tie as tie
 
 abbrev Inv-loop : tie.InvT-loop
 Inv-loop before after at end n₀ i₀ n i = n ≤ i

@@ -1,5 +1,4 @@
 // The settings that a shelf stores, in the form of a wanted list: four bytes for each element.
-use crate::answer;
 use shelf::elements;
 use shelf::limits;
 use shelf_formed::Opened;
@@ -7,15 +6,8 @@ ghost use Prim.Native.Nat.{_*_, _≤_};
 ghost use lib.ListN.{length};
 ghost use Rattle.shelf.specs.Limits.{elementPlace};
 
-// The list in hexadecimal, or the refusal.
-pub fn tell(shelf: &[u8]) {
-    let answer = ses::check(shelf);
-    if answer::tell(answer, b"") {
-        show(shelf);
-    }
-}
-
-fn show(shelf: &[u8]) {
+// The list of a well-formed shelf, in hexadecimal.
+pub fn show(shelf: &[u8]) {
     let mut list = [0u8; limits::LONGEST_WANTED_LIST];
     let n = put(shelf, &mut list);
     tool_print::hex_lines(&list, 4 * n as u32);

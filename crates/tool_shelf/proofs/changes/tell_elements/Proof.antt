@@ -1,9 +1,9 @@
--- `shelfctl::changes::tell_elements` is safe and ends.
+-- `tool_shelf::changes::tell_elements` is safe and ends.
 use Prim.Native.Nat.{_-_}
 use native.Mathlib.Omega.{arith}
 use borrow.Author.Needs.{needs}
-use Rattle.shelfctl.proofs.changes.tell_elements.Statement.{statement}
-use Rattle.shelfctl.proofs.changes.tell_elements.Tie as tie
+use Rattle.tool_shelf.proofs.changes.tell_elements.Statement.{statement}
+use Rattle.tool_shelf.proofs.changes.tell_elements.Tie as tie
 
 abbrev Inv-loop : tie.InvT-loop
 Inv-loop before after j₀ j = Unit {0}

@@ -1,9 +1,9 @@
--- `shelfctl::builtin::put` is safe and ends.
+-- `tool_shelf::builtin::put` is safe and ends.
 use Prim.Native.Nat.{_-_}
 use native.Mathlib.Omega.{arith}
 use lib.ListN.{length}
-use Rattle.shelfctl.proofs.builtin.put.Statement.{statement}
-use Rattle.shelfctl.proofs.builtin.put.Tie as tie
+use Rattle.tool_shelf.proofs.builtin.put.Statement.{statement}
+use Rattle.tool_shelf.proofs.builtin.put.Tie as tie
 
 abbrev Inv-loop : tie.InvT-loop
 Inv-loop s₀ at part i₀ s i = Unit {0}

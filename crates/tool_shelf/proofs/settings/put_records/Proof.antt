@@ -1,12 +1,12 @@
--- `shelfctl::settings::put_records` is safe and ends.
+-- `tool_shelf::settings::put_records` is safe and ends.
 use mathlib.Core.Path.{_≡_, refl, ap, _∙_}
 use Prim.Native.Nat.{_-_}
 use native.Mathlib.Omega.{arith}
 use lib.ListN.{length}
 use borrow.Author.Needs.{needs}
 use Rattle.bits.proofs.FourPut.{length-put}
-use Rattle.shelfctl.proofs.settings.put_records.Statement.{statement}
-use Rattle.shelfctl.proofs.settings.put_records.Tie as tie
+use Rattle.tool_shelf.proofs.settings.put_records.Statement.{statement}
+use Rattle.tool_shelf.proofs.settings.put_records.Tie as tie
 
 abbrev Inv-loop : tie.InvT-loop
 Inv-loop shelf list₀ n j₀ list j = length list ≡ length list₀

@@ -1,10 +1,10 @@
--- `shelfctl::settings::put` is safe and ends.
+-- `tool_shelf::settings::put` is safe and ends.
 use mathlib.Core.Path.{sym, _∙_}
 use denote.Ref.{now}
 use borrow.Author.Needs.{needs}
 use Rattle.shelf_formed.proofs.ElementPut.{opened-there}
-use Rattle.shelfctl.proofs.settings.put.Statement.{statement}
-use Rattle.shelfctl.proofs.settings.put.Tie as tie
+use Rattle.tool_shelf.proofs.settings.put.Statement.{statement}
+use Rattle.tool_shelf.proofs.settings.put.Tie as tie
 
 open-shelf-requires : tie.Need-open-shelf-requires
 open-shelf-requires c κs = search needs

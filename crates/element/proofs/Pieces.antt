@@ -5,9 +5,10 @@ use Prim.Native.Nat.{ℕ, zero, suc, _+_, _-_, _*_, _/_, _%_, _^_, _<_, _≤_}
 use native.Mathlib.Nat.{mod-lt, mod-eq-of-lt, mul-assoc, add-mul, add-assoc, mod-mod, zero-mul, zero-add, suc-add}
 use native.Mathlib.Omega.{arith}
 use lib.Arith.{digits-lt}
+use lib.Bits.{bitAnd, and-mask, and-zero-r, and-block}
 use lib.ListN.{length, getD}
-use lib.Pow.{pow-add, high, low, lt-of-le-ones, le-ones, pow-pos}
-use Rattle.element.specs.StatusLayout.{Piece, field, reserved, size, count, mostIn, fieldsIn, byteFrom, padded}
+use lib.Pow.{pow-add, pow-mono, high, low, lt-of-le-ones, le-ones, ones-lt, pow-pos, mod-pow-add}
+use Rattle.element.specs.StatusLayout.{Piece, field, reserved, size, count, fieldMask, mostIn, fieldsIn, byteFrom, padded}
 
 -- the fields of v from the i-th on, as far as the pieces hold them
 abbrev pub cutIn : List Piece → List ℕ → ℕ → List ℕ
@@ -144,3 +145,32 @@ parts (field w ∷ ps) (x ∷ f) ms h =
       λ z. let e : x % 2 ^ w ≡ x = mod-eq-of-lt (lt-of-le-ones w (h .0)) in let r = tail-cut ps x (t .0 ++ z) 0 ∙ t .5 z in λ i. e i ∷ r i,
     )
 parts (reserved w ∷ ps) f ms h = parts ps f ms h
+
+-- the fields of a byte are its bits under the mask of fields
+pub mask-below : (ps : List Piece) → fieldMask ps < 2 ^ size ps
+mask-below [] = omega arith
+mask-below (field w ∷ ps) = rw (pow-add 2 w (size ps)) (digits-lt (ones-lt w) (mask-below ps))
+mask-below (reserved w ∷ ps) =
+    let a = mask-below ps in
+    let b : 2 ^ size ps ≤ 2 ^ (w + size ps) = pow-mono (omega arith) in
+    omega arith
+
+pub masked : (ps : List Piece) (b : ℕ) → byteFrom ps (fieldsIn ps b) 0 ≡ bitAnd (b % 2 ^ size ps) (fieldMask ps)
+masked [] b = sym (and-zero-r (b % 2 ^ 0))
+masked (field w ∷ ps) b =
+    let k = size ps in
+    let x = b / 2 ^ k % 2 ^ w in
+    ap (λ (n : ℕ). x % 2 ^ w * 2 ^ k + n) (tail-byte ps x (fieldsIn ps b) 0 ∙ masked ps b)
+    ∙ ap (λ (n : ℕ). n * 2 ^ k + bitAnd (b % 2 ^ k) (fieldMask ps)) (sym (and-mask x w))
+    ∙ sym (and-block k x (2 ^ w - 1) (b % 2 ^ k) (fieldMask ps) (mod-lt b (pow-pos k)) (mask-below ps))
+    ∙ ap (λ (n : ℕ). bitAnd n ((2 ^ w - 1) * 2 ^ k + fieldMask ps)) (sym (mod-pow-add b w k))
+masked (reserved w ∷ ps) b =
+    let k = size ps in
+    let x = b / 2 ^ k % 2 ^ w in
+    let e : bitAnd x 0 * 2 ^ k + bitAnd (b % 2 ^ k) (fieldMask ps) ≡ bitAnd (b % 2 ^ k) (fieldMask ps)
+    = ap (λ (n : ℕ). n * 2 ^ k + bitAnd (b % 2 ^ k) (fieldMask ps)) (and-zero-r x) ∙ ap (λ (n : ℕ). n + bitAnd (b % 2 ^ k) (fieldMask ps)) (zero-mul (2 ^ k)) ∙ zero-add (bitAnd (b % 2 ^ k) (fieldMask ps)) in
+    let z : 0 * 2 ^ k + fieldMask ps ≡ fieldMask ps = ap (λ (n : ℕ). n + fieldMask ps) (zero-mul (2 ^ k)) ∙ zero-add (fieldMask ps) in
+    masked ps b
+    ∙ sym e
+    ∙ sym (and-block k x 0 (b % 2 ^ k) (fieldMask ps) (mod-lt b (pow-pos k)) (mask-below ps))
+    ∙ (λ i. bitAnd (sym (mod-pow-add b w k) i) (z i))

@@ -3,79 +3,52 @@
 use mathlib.Core.Path.{_≡_, refl, sym, ap, subst, _∙_}
 use mathlib.Core.Bool.{Bool, true, _&&_}
 use mathlib.Core.List.{List, [], _∷_, _++_, append-assoc, append-nil}
-use Prim.Native.Nat.{ℕ, _+_, _^_, _<_, _≤_}
-use native.Mathlib.Nat.{add-zero}
+use Prim.Native.Nat.{ℕ, _+_, _%_, _^_, _<_, _≤_}
+use native.Mathlib.Nat.{add-zero, mod-eq-of-lt}
+use lib.Bits.{bitAnd}
 use lib.Dec.{eqb, leb}
 use lib.ListN.{length, getD, length-append}
-use borrow.Author.Tests.{eqb-true, leb-true}
-use Rattle.bits.specs.Choice.{allBelow}
+use borrow.Author.Tests.{eqb-true, eq-eqb, leb-true}
 use Rattle.bits.specs.Bits.{within}
-use Rattle.bits.proofs.Logic.{and-left, and-right, and-four, below-at, implies, implied}
+use Rattle.bits.proofs.Logic.{and-four}
 use Rattle.element.specs.StatusLayout.{Piece, StatusLayout, size, count, fieldMask, mostIn, fieldsIn, byteFrom, padded, twelve, three, mostOf}
-use Rattle.element.proofs.Pieces.{cutIn, AllLe, byte-small, fields-cut, byte-behind, cut-behind, byte-front, byte-cut, fields-count, pad-append, fields-le, append-le, padded-le, parts}
+use Rattle.element.proofs.Pieces.{cutIn, AllLe, byte-small, fields-cut, byte-behind, cut-behind, byte-front, byte-cut, fields-count, pad-append, fields-le, append-le, padded-le, parts, masked}
 
--- the pieces of a byte: eight bits in all; no bit but those of fields gives the byte again, and fields make no other bit, as antt finds by
--- computing it over every byte
-abbrev pub again : List Piece → ℕ → Bool
-again ps b = implies (within (fieldMask ps) b) (eqb (byteFrom ps (fieldsIn ps b) 0) b)
-
-abbrev pub clear : List Piece → ℕ → Bool
-clear ps b = within (fieldMask ps) (byteFrom ps (fieldsIn ps b) 0)
-
-abbrev wholeTest : List Piece → Bool
-wholeTest ps = (eqb (size ps) 8 && allBelow (again ps) 256) && allBelow (clear ps) 256
-
-module _ (ps : List Piece) where
-  pub record Whole : Type 0 where
-    pub eight : size ps ≡ 8
-    pub agains : allBelow (again ps) 256 ≡ true
-    pub clears : allBelow (clear ps) 256 ≡ true
-
-  whole-tested : wholeTest ps ≡ true → Whole
-  whole-tested t =
-      let h = and-left (eqb (size ps) 8 && allBelow (again ps) 256) (allBelow (clear ps) 256) t in
-      record {
-        eight = eqb-true (size ps) 8 (and-left (eqb (size ps) 8) (allBelow (again ps) 256) h);
-        agains = and-right (eqb (size ps) 8) (allBelow (again ps) 256) h;
-        clears = and-right (eqb (size ps) 8 && allBelow (again ps) 256) (allBelow (clear ps) 256) t;
-      }
-
-module _ (ps : List Piece) (h : Whole ps) where
+module _ (ps : List Piece) (h : size ps ≡ 8) where
   small : (v : List ℕ) (i : ℕ) → byteFrom ps v i < 256
-  small v i = subst (λ (n : ℕ). byteFrom ps v i < 2 ^ n) (h .eight) (byte-small ps v i)
+  small v i = subst (λ (n : ℕ). byteFrom ps v i < 2 ^ n) h (byte-small ps v i)
 
+  bits-of : (b : ℕ) → b < 256 → byteFrom ps (fieldsIn ps b) 0 ≡ bitAnd b (fieldMask ps)
+  bits-of b l = masked ps b ∙ ap (λ (n : ℕ). bitAnd n (fieldMask ps)) (ap (λ (n : ℕ). b % 2 ^ n) h ∙ mod-eq-of-lt l)
+
+  -- a byte with no bit but those of fields is that of its fields
   byte-again : (b : ℕ) → b < 256 → within (fieldMask ps) b ≡ true → byteFrom ps (fieldsIn ps b) 0 ≡ b
-  byte-again b l t =
-      eqb-true _ _
-      (implied (within (fieldMask ps) b) _ (below-at (again ps) 256 (h .agains) b l) t)
+  byte-again b l t = bits-of b l ∙ eqb-true _ _ t
 
   -- a byte that is made of fields has no other bit
   pub byte-clear : (v : List ℕ) (i : ℕ) → within (fieldMask ps) (byteFrom ps v i) ≡ true
   byte-clear v i =
-      let e : byteFrom ps (fieldsIn ps (byteFrom ps v i)) 0 ≡ byteFrom ps v i = ap (λ (l : List ℕ). byteFrom ps l 0) (fields-cut ps v i) ∙ byte-cut ps v i in
-      ap (within (fieldMask ps)) (sym e) ∙ below-at (clear ps) 256 (h .clears) (byteFrom ps v i) (small v i)
+      let b = byteFrom ps v i in
+      let e : byteFrom ps (fieldsIn ps b) 0 ≡ b = ap (λ (l : List ℕ). byteFrom ps l 0) (fields-cut ps v i) ∙ byte-cut ps v i in
+      eq-eqb _ _ (sym (bits-of b (small v i)) ∙ e)
 
+-- the pieces of each byte have eight bits in all, and there are twelve fields at most, as antt finds by computing it
 module _ (l : StatusLayout) where
   pub record Lays : Type 0 where
-    pub second : Whole (l .second)
-    pub third : Whole (l .third)
-    pub fourth : Whole (l .fourth)
+    pub second : size (l .second) ≡ 8
+    pub third : size (l .third) ≡ 8
+    pub fourth : size (l .fourth) ≡ 8
     pub few : count (l .second) + (count (l .third) + count (l .fourth)) ≤ 12
 
   abbrev pub laysTest : Bool
   laysTest =
-      ((wholeTest (l .second) && wholeTest (l .third)) && wholeTest (l .fourth))
+      ((eqb (size (l .second)) 8 && eqb (size (l .third)) 8) && eqb (size (l .fourth)) 8)
       && leb (count (l .second) + (count (l .third) + count (l .fourth))) 12
 
   pub lays-tested : laysTest ≡ true → Lays
   lays-tested t =
-      let h = and-four (wholeTest (l .second)) (wholeTest (l .third)) (wholeTest (l .fourth)) (leb (count (l .second) + (count (l .third) + count (l .fourth))) 12) t in
-      record {
-        second = whole-tested (l .second) (h .0);
-        third = whole-tested (l .third) (h .1);
-        fourth = whole-tested (l .fourth) (h .2);
-        few = leb-true _ 12 (h .3);
-      }
+      let h = and-four (eqb (size (l .second)) 8) (eqb (size (l .third)) 8) (eqb (size (l .fourth)) 8) (leb (count (l .second) + (count (l .third) + count (l .fourth))) 12) t in
+      record { second = eqb-true _ 8 (h .0); third = eqb-true _ 8 (h .1); fourth = eqb-true _ 8 (h .2); few = leb-true _ 12 (h .3) }
 
   abbrev pub allMost : List ℕ
   allMost = mostIn (l .second) ++ (mostIn (l .third) ++ mostIn (l .fourth))

@@ -12,9 +12,13 @@ use Rattle.element.specs.declared.types.Kind.{Kind}
 use Rattle.element.specs.declared.types.Kind.the-variants.{Cooling, Temperature, Voltage, Current}
 use Rattle.element.specs.Verdict.{unlimited, above, below, over, under}
 use Rattle.element.specs.Types.{fanLayout, isOn, fanStatus, sensorLayout, temperatureStatus, voltageStatus, currentStatus, rulesOf}
-use Rattle.element.proofs.SettingsBothWays.{sound-tested}
+use Rattle.element.proofs.SettingsBothWays.{Sound, sound-tested}
 use Rattle.element.proofs.StatusBothWays.{lays-tested}
 use Rattle.element.proofs.Facts.{Facts, code-picked, code-judged, code-either}
+
+-- computed once for the three sensors
+sensor-sound : Sound sensorLayout
+sensor-sound = sound-tested sensorLayout refl
 
 pub facts : (k : Kind) → Facts (rulesOf k)
 facts Cooling = record {
@@ -31,7 +35,7 @@ facts Cooling = record {
 }
 facts Temperature = record {
   numbered = refl;
-  sound = sound-tested sensorLayout refl;
+  sound = sensor-sound;
   reserves = λ e. refl;
   judges = λ s r n t.
       code-either (eqb r 0) (unlimited 6) _ refl
@@ -43,7 +47,7 @@ facts Temperature = record {
 }
 facts Voltage = record {
   numbered = refl;
-  sound = sound-tested sensorLayout refl;
+  sound = sensor-sound;
   reserves = λ e. refl;
   judges = λ s r n t.
       code-judged (over r n (getD t 0 0)) (over r n (getD t 1 0)) (under r n (getD t 2 0)) (under r n (getD t 3 0));
@@ -54,7 +58,7 @@ facts Voltage = record {
 }
 facts Current = record {
   numbered = refl;
-  sound = sound-tested sensorLayout refl;
+  sound = sensor-sound;
   reserves = λ e. refl;
   judges = λ s r n t. code-judged (over r n (getD t 0 0)) (over r n (getD t 1 0)) false false;
   lays = lays-tested currentStatus refl;

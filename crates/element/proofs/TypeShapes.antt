@@ -23,6 +23,7 @@ use Rattle.element.specs.StatusLayout.{Piece, StatusLayout, field, reser
 use Rattle.element.specs.Rules.{Numbers, codeAllowed, firstClear, shownMask}
 use Rattle.element.specs.Types.{rulesOf}
 use Rattle.element.specs.Status.{headOf, entryIn, statusOffending, mostShown, mostOverall}
+use Rattle.element.proofs.Pieces.{mask-below}
 use Rattle.element.proofs.StatusBothWays.{Lays}
 use Rattle.element.proofs.Shapes.{twelve-cut, three-back, shift-small, listed, shifts-listed, mosts-listed}
 use Rattle.element.proofs.TypeFacts.{facts}
@@ -35,10 +36,10 @@ module _ (l : StatusLayout) (h : Lays l) where
       let x : n / 2 ^ 16 % 256 ≡ getD e 1 0 = omega (arith, d .1 .0, d .1 .1 .0, d .1 .1 .1 .0) in
       let y : n / 2 ^ 8 % 256 ≡ getD e 2 0 = omega (arith, d .1 .1 .0, d .1 .1 .1 .0) in
       let z : n % 256 ≡ getD e 3 0 = omega (arith, d .1 .1 .1 .0) in
-      ap (λ (t : List ℕ). headOf (getD e 0 0) ++ t) (twelve-cut l (h .second .eight) (h .third .eight) (h .fourth .eight) n ∙ (λ i. twelve l (x i) (y i) (z i)))
+      ap (λ (t : List ℕ). headOf (getD e 0 0) ++ t) (twelve-cut l (h .second) (h .third) (h .fourth) n ∙ (λ i. twelve l (x i) (y i) (z i)))
 
   pub bytes-put : (x : List ℕ) → bytes 4 (puts (shiftsOf l) (mostOf l) x 4) ≡ 0 ∷ three l x 4
-  bytes-put x = three-back l (h .second .eight) (h .third .eight) (h .fourth .eight) (h .few) x 4
+  bytes-put x = three-back l (h .second) (h .third) (h .fourth) (h .few) x 4
 
 -- a number is at most 2 ^ w - 1 exactly if it has no bit above the lowest w
 under-ones : (b w : ℕ) → leb b (2 ^ w - 1) ≡ true → within (2 ^ w - 1) b ≡ true
@@ -78,9 +79,9 @@ all-ones l h =
     let a = mostIn (l .second) in
     let b = mostIn (l .third) in
     let c = mostIn (l .fourth) in
-    let x = ones-most (l .second) (let e = h .second .eight in omega arith) in
-    let y = ones-most (l .third) (let e = h .third .eight in omega arith) in
-    let z = ones-most (l .fourth) (let e = h .fourth .eight in omega arith) in
+    let x = ones-most (l .second) (let e = h .second in omega arith) in
+    let y = ones-most (l .third) (let e = h .third in omega arith) in
+    let z = ones-most (l .fourth) (let e = h .fourth in omega arith) in
     ones-padded 12 (a ++ (b ++ c)) (ones-append a (b ++ c) x (ones-append b c y z))
 
 module _ (m : List ℕ) (o : Ones m) (i : ℕ) where
@@ -194,14 +195,6 @@ overall-words x h =
     let o : Ones (15 ∷ 0 ∷ 0 ∷ 0 ∷ replicate 12 0) = ((4, omega arith, refl), (none, (none, (none, ones-padded 12 [] tt)))) in
     fit-words 0 0 0 (replicate 12 0) x o h
 
-mask-below : (ps : List Piece) → fieldMask ps < 2 ^ size ps
-mask-below [] = omega arith
-mask-below (field w ∷ ps) = rw (pow.pow-add 2 w (size ps)) (digits-lt (pow.ones-lt w) (mask-below ps))
-mask-below (reserved w ∷ ps) =
-    let a = mask-below ps in
-    let b : 2 ^ size ps ≤ 2 ^ (w + size ps) = pow.pow-mono (omega arith) in
-    omega arith
-
 -- the first refused byte
 module _ (k : Kind) where
   abbrev l : StatusLayout
@@ -213,7 +206,7 @@ module _ (k : Kind) where
   shown-bytes : Bytes (shownMask l)
   shown-bytes =
       let h = facts k .lays in
-      (omega arith, (byte-mask (l .second) (h .second .eight), (byte-mask (l .third) (h .third .eight), (byte-mask (l .fourth) (h .fourth .eight), tt))))
+      (omega arith, (byte-mask (l .second) (h .second), (byte-mask (l .third) (h .third), (byte-mask (l .fourth) (h .fourth), tt))))
 
   shown-is : rulesOf k .numbers .shown ≡ big (shownMask l)
   shown-is = ap (λ (m : Numbers). m .shown) (facts k .numbered)
@@ -248,7 +241,7 @@ module _ (k : Kind) where
   shifts-word : (i : ℕ) → bytes 4 (big (fourAt shifts i)) ≡ fourAt shifts i
   shifts-word i =
       let h = facts k .lays in
-      let a : (j : ℕ) → getD shifts j 0 < 256 = λ j. shift-small (rulesOf k .status) j (h .second .eight) (h .third .eight) (h .fourth .eight) in
+      let a : (j : ℕ) → getD shifts j 0 < 256 = λ j. shift-small (rulesOf k .status) j (h .second) (h .third) (h .fourth) in
       bytes-big (fourAt shifts i) (a i, (a (i + 1), (a (i + 2), (a (i + 3), tt))))
 
   mosts-word : (i : ℕ) → bytes 4 (big (fourAt mosts i)) ≡ fourAt mosts i

@@ -6,12 +6,9 @@ use Rattle.bits.proofs.are_within.Lts as lts
 use Rattle.bits.proofs.number.Reads as number-reads
 
 -- src/lib.rt:75:9
-number-requires : tie.Need-number-requires
-number-requires c κs = search needs
-
 -- src/lib.rt:72:1
 returns : tie.Need-returns
 returns c = rw (c .number .ensures)
 
 pub are-within-spec : {M : Type 1} → statement M
-are-within-spec = tie.close (tie.spec number-requires returns)
+are-within-spec = tie.close (tie.spec (λ c κs. search needs) returns)

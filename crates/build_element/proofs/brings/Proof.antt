@@ -4,27 +4,6 @@ use borrow.Author.Needs.{needs}
 use Rattle.build_element.proofs.brings.Statement.{statement}
 use Rattle.build_element.proofs.brings.Tie as tie
 
-is-selected-requires : tie.Need-is-selected-requires
-is-selected-requires c κs = search needs
-
-of-requires : tie.Need-of-requires
-of-requires c κs = search needs
-
-of-requires-2 : tie.Need-of-requires-2
-of-requires-2 c κs = search needs
-
-act-requires : tie.Need-act-requires
-act-requires c κs = search needs
-
-bytes-requires : tie.Need-bytes-requires
-bytes-requires c κs = search needs
-
-alike-requires : tie.Need-alike-requires
-alike-requires c κs = search needs
-
-alike-requires-2 : tie.Need-alike-requires-2
-alike-requires-2 c κs = search needs
-
 returns : tie.Need-returns
 returns c =
     let a = c .before .before .before .before .before in
@@ -40,12 +19,7 @@ pub brings-spec : {M : Type 1} → statement M
 brings-spec =
     tie.close
     (tie.spec
-    is-selected-requires
-    of-requires
-    of-requires-2
-    act-requires
-    bytes-requires
-    alike-requires
-    alike-requires-2
+    (λ c κs. search needs) (λ c κs. search needs) (λ c κs. search needs) (λ c κs. search needs)
+    (λ c κs. search needs) (λ c κs. search needs) (λ c κs. search needs)
     returns
     returns-2)

@@ -4,14 +4,8 @@ use borrow.Author.Needs.{needs}
 use Rattle.build_element.proofs.in_reach.Statement.{statement}
 use Rattle.build_element.proofs.in_reach.Tie as tie
 
-of-requires : tie.Need-of-requires
-of-requires c κs = search needs
-
-of-requires-2 : tie.Need-of-requires-2
-of-requires-2 c κs = search needs
-
 returns : tie.Need-returns
 returns c = let s = c .before .before .before .before .args in reach-is (s .kind) (s .stored) (s .wanted) (c .before .before .before .of .ensures) (c .before .before .of2 .ensures)
 
 pub in-reach-spec : {M : Type 1} → statement M
-in-reach-spec = tie.close (tie.spec of-requires of-requires-2 returns)
+in-reach-spec = tie.close (tie.spec (λ c κs. search needs) (λ c κs. search needs) returns)

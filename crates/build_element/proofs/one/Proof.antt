@@ -4,12 +4,6 @@ use borrow.Author.Needs.{needs}
 use Rattle.build_element.proofs.one.Statement.{statement}
 use Rattle.build_element.proofs.one.Tie as tie
 
-brings-requires : tie.Need-brings-requires
-brings-requires c κs = search needs
-
-own-requires : tie.Need-own-requires
-own-requires c κs = search needs
-
 returns : tie.Need-returns
 returns c = let s = c .before .before .args in one-silent (s .kind) (s .overall) (s .stored) (s .wanted) (c .before .brings .ensures) (c .if1 .taken)
 
@@ -17,4 +11,4 @@ returns-2 : tie.Need-returns-2
 returns-2 c = let s = c .before .before .before .args in one-own (s .kind) (s .overall) (s .stored) (s .wanted) (c .before .before .brings .ensures) (c .before .if1 .left) (c .own .ensures)
 
 pub one-spec : {M : Type 1} → statement M
-one-spec = tie.close (tie.spec brings-requires own-requires returns returns-2)
+one-spec = tie.close (tie.spec (λ c κs. search needs) (λ c κs. search needs) returns returns-2)

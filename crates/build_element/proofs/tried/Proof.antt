@@ -4,21 +4,6 @@ use borrow.Author.Needs.{needs}
 use Rattle.build_element.proofs.tried.Statement.{statement}
 use Rattle.build_element.proofs.tried.Tie as tie
 
-of-requires : tie.Need-of-requires
-of-requires c κs = search needs
-
-request-requires : tie.Need-request-requires
-request-requires c κs = search needs
-
-request-bytes-requires : tie.Need-request-bytes-requires
-request-bytes-requires c κs = search needs
-
-request-requires-2 : tie.Need-request-requires-2
-request-requires-2 c κs = search needs
-
-request-bytes-requires-2 : tie.Need-request-bytes-requires-2
-request-bytes-requires-2 c κs = search needs
-
 returns : tie.Need-returns
 returns c = let s = c .before .before .before .before .args in uncoded-is (s .kind) (s .wanted) (s .v) (c .before .before .before .of .ensures) (c .before .before .if1 .taken) (c .before .request .ensures) (c .request-bytes .ensures)
 
@@ -29,10 +14,7 @@ pub tried-spec : {M : Type 1} → statement M
 tried-spec =
     tie.close
     (tie.spec
-    of-requires
-    request-requires
-    request-bytes-requires
-    request-requires-2
-    request-bytes-requires-2
+    (λ c κs. search needs) (λ c κs. search needs) (λ c κs. search needs) (λ c κs. search needs)
+    (λ c κs. search needs)
     returns
     returns-2)

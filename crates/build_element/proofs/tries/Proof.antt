@@ -4,9 +4,6 @@ use borrow.Author.Needs.{needs}
 use Rattle.build_element.proofs.tries.Statement.{statement}
 use Rattle.build_element.proofs.tries.Tie as tie
 
-of-requires : tie.Need-of-requires
-of-requires c κs = search needs
-
 returns : tie.Need-returns
 returns c = let s = c .before .before .before .args in two-tries (s .kind) (s .wanted) (c .before .before .of .ensures) (c .if1 .taken)
 
@@ -14,4 +11,4 @@ returns-2 : tie.Need-returns-2
 returns-2 c = let s = c .before .before .before .args in four-tries (s .kind) (s .wanted) (c .before .before .of .ensures) (c .if1 .left)
 
 pub tries-spec : {M : Type 1} → statement M
-tries-spec = tie.close (tie.spec of-requires returns returns-2)
+tries-spec = tie.close (tie.spec (λ c κs. search needs) returns returns-2)

@@ -6,12 +6,6 @@ use borrow.Author.Needs.{needs}
 use Rattle.build_overall.proofs.consider.Statement.{statement}
 use Rattle.build_overall.proofs.consider.Tie as tie
 
-is-repeated-requires : tie.Need-is-repeated-requires
-is-repeated-requires c κs = search needs
-
-settings-in-requires : tie.Need-settings-in-requires
-settings-in-requires c κs = search needs
-
 try-record-requires : tie.Need-try-record-requires
 try-record-requires c κs = let q = c .before .before .before .before .before in let s = q .args in (q .pre .0, best-ranked (now (s .shelf)) (now (s .wanted)) (s .at) (s .j - s .at .first) (q .pre .1 .1))
 
@@ -23,5 +17,4 @@ returns-2 c = let s = c .before .before .before .before .before .before .args in
 
 pub consider-spec : {M : Type 1} → statement M
 consider-spec =
-    tie.close
-    (tie.spec is-repeated-requires settings-in-requires try-record-requires returns returns-2)
+    tie.close (tie.spec (λ c κs. search needs) (λ c κs. search needs) try-record-requires returns returns-2)

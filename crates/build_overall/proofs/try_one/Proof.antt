@@ -5,12 +5,6 @@ use borrow.Author.Needs.{needs}
 use Rattle.build_overall.proofs.try_one.Statement.{statement}
 use Rattle.build_overall.proofs.try_one.Tie as tie
 
-cost-requires : tie.Need-cost-requires
-cost-requires c κs = search needs
-
-sooner-requires : tie.Need-sooner-requires
-sooner-requires c κs = search needs
-
 returns : tie.Need-returns
 returns c = let s = c .before .before .before .before .before .before .args in one-better (now (s .shelf)) (now (s .wanted)) (s .at) (s .best) (s .overall) (c .before .before .before .cost .ensures) (c .before .sooner .ensures) (c .if1 .taken)
 
@@ -18,4 +12,4 @@ returns-2 : tie.Need-returns-2
 returns-2 c = let s = c .before .before .before .before .before .before .args in none-better (now (s .shelf)) (now (s .wanted)) (s .at) (s .best) (s .overall) (c .before .before .before .cost .ensures) (c .before .sooner .ensures) (c .if1 .left)
 
 pub try-one-spec : {M : Type 1} → statement M
-try-one-spec = tie.close (tie.spec cost-requires sooner-requires returns returns-2)
+try-one-spec = tie.close (tie.spec (λ c κs. search needs) (λ c κs. search needs) returns returns-2)

@@ -10,18 +10,6 @@ use borrow.Author.Needs.{needs}
 use Rattle.build_page.proofs.build.Statement.{statement}
 use Rattle.build_page.proofs.build.Tie as tie
 
-wish-requires : tie.Need-wish-requires
-wish-requires c κs = search needs
-
-enum-told : tie.Need-enum-told
-enum-told c = search needs
-
-enum-told-2 : tie.Need-enum-told-2
-enum-told-2 c = search needs
-
-refused-requires : tie.Need-refused-requires
-refused-requires c κs = search needs
-
 returns : tie.Need-returns
 returns c = let s = c .before .before .before .before .before .before .before .args in wish-refused (now (s .shelf)) (now (s .wanted)) (now (s .out)) (c .before .before .before .wish .ensures) (c .before .enum-told2 .given .1) (c .refused .ensures)
 
@@ -36,9 +24,6 @@ returns-2 c = let s = c .before .before .before .before .before .before .before 
 
 write-requires : tie.Need-write-requires
 write-requires c κs = let s = c .before .before .before .before .before .before .before .before .before .before .args in let z = wish-there (now (s .shelf)) (now (s .wanted)) (now (s .out)) (c .before .before .before .before .before .before .wish .ensures) (c .before .before .before .before .enum-told .given .1) in (z .0, omega (arith, z .1))
-
-same-length : tie.Need-same-length
-same-length c = search needs
 
 returns-3 : tie.Need-returns-3
 returns-3 c =
@@ -55,14 +40,11 @@ pub build-spec : {M : Type 1} → statement M
 build-spec =
     tie.close
     (tie.spec
-    wish-requires
-    enum-told
-    enum-told-2
-    refused-requires
+    (λ c κs. search needs) (λ c. search needs) (λ c. search needs) (λ c κs. search needs)
     returns
     all-elements-requires
     reach-requires
     returns-2
     write-requires
-    same-length
+    (λ c. search needs)
     returns-3)

@@ -3,11 +3,8 @@ use borrow.Author.Needs.{needs}
 use Rattle.element_status.proofs.first_clear.Statement.{statement}
 use Rattle.element_status.proofs.first_clear.Tie as tie
 
-code-allowed-requires : tie.Need-code-allowed-requires
-code-allowed-requires c κs = search needs
-
 returns : tie.Need-returns
 returns c = rw (c .code-allowed .ensures)
 
 pub first-clear-spec : {M : Type 1} → statement M
-first-clear-spec = tie.close (tie.spec code-allowed-requires returns)
+first-clear-spec = tie.close (tie.spec (λ c κs. search needs) returns)

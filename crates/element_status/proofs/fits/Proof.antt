@@ -13,21 +13,6 @@ use borrow.Author.Needs.{needs}
 use Rattle.element_status.proofs.fits.Statement.{statement}
 use Rattle.element_status.proofs.fits.Tie as tie
 
-shown-first-requires : tie.Need-shown-first-requires
-shown-first-requires c κs = search needs
-
-shown-next-requires : tie.Need-shown-next-requires
-shown-next-requires c κs = search needs
-
-shown-last-requires : tie.Need-shown-last-requires
-shown-last-requires c κs = search needs
-
-are-within-requires : tie.Need-are-within-requires
-are-within-requires c κs = search needs
-
-array-read-result : tie.Need-array-read-result
-array-read-result c = search needs
-
 returns : tie.Need-returns
 returns c =
     let s = c .before .before .before .before .args in
@@ -43,9 +28,6 @@ pub fits-spec : {M : Type 1} → statement M
 fits-spec =
     tie.close
     (tie.spec
-    shown-first-requires
-    shown-next-requires
-    shown-last-requires
-    are-within-requires
-    array-read-result
+    (λ c κs. search needs) (λ c κs. search needs) (λ c κs. search needs) (λ c κs. search needs)
+    (λ c. search needs)
     returns)

@@ -13,24 +13,6 @@ use borrow.Author.Needs.{needs}
 use Rattle.element_status.proofs.offending.Statement.{statement}
 use Rattle.element_status.proofs.offending.Tie as tie
 
-shown-requires : tie.Need-shown-requires
-shown-requires c κs = search needs
-
-four-of-requires : tie.Need-four-of-requires
-four-of-requires c κs = search needs
-
-shown-requires-2 : tie.Need-shown-requires-2
-shown-requires-2 c κs = search needs
-
-are-within-requires : tie.Need-are-within-requires
-are-within-requires c κs = search needs
-
-array-read-code-allowed : tie.Need-array-read-code-allowed
-array-read-code-allowed c = search needs
-
-code-allowed-requires : tie.Need-code-allowed-requires
-code-allowed-requires c κs = search needs
-
 returns : tie.Need-returns
 returns c =
     let s = c .before .before .before .before .before .before .args in
@@ -39,42 +21,6 @@ returns c =
     let w = c .before .before .are-within .ensures ∙ ap (λ (n : ℕ). within n (big (fourAt e 0))) (c .before .before .before .shown2 .ensures) in
     let a = c .before .code-allowed .ensures in
     none-hidden (s .kind) e h (sym (λ i. w i && a i) ∙ c .if1 .taken)
-
-array-read-first-clear : tie.Need-array-read-first-clear
-array-read-first-clear c = search needs
-
-first-clear-requires : tie.Need-first-clear-requires
-first-clear-requires c κs = search needs
-
-array-read-first-of : tie.Need-array-read-first-of
-array-read-first-of c = search needs
-
-array-read-first-of-2 : tie.Need-array-read-first-of-2
-array-read-first-of-2 c = search needs
-
-array-read-first-of-3 : tie.Need-array-read-first-of-3
-array-read-first-of-3 c = search needs
-
-array-read-first-of-4 : tie.Need-array-read-first-of-4
-array-read-first-of-4 c = search needs
-
-array-read-first-of-5 : tie.Need-array-read-first-of-5
-array-read-first-of-5 c = search needs
-
-array-read-first-of-6 : tie.Need-array-read-first-of-6
-array-read-first-of-6 c = search needs
-
-array-read-first-of-7 : tie.Need-array-read-first-of-7
-array-read-first-of-7 c = search needs
-
-array-read-first-of-8 : tie.Need-array-read-first-of-8
-array-read-first-of-8 c = search needs
-
-array-read-first-of-9 : tie.Need-array-read-first-of-9
-array-read-first-of-9 c = search needs
-
-first-of-requires : tie.Need-first-of-requires
-first-of-requires c κs = search needs
 
 returns-2 : tie.Need-returns-2
 returns-2 c =
@@ -90,23 +36,10 @@ pub offending-spec : {M : Type 1} → statement M
 offending-spec =
     tie.close
     (tie.spec
-    shown-requires
-    four-of-requires
-    shown-requires-2
-    are-within-requires
-    array-read-code-allowed
-    code-allowed-requires
+    (λ c κs. search needs) (λ c κs. search needs) (λ c κs. search needs) (λ c κs. search needs)
+    (λ c. search needs) (λ c κs. search needs)
     returns
-    array-read-first-clear
-    first-clear-requires
-    array-read-first-of
-    array-read-first-of-2
-    array-read-first-of-3
-    array-read-first-of-4
-    array-read-first-of-5
-    array-read-first-of-6
-    array-read-first-of-7
-    array-read-first-of-8
-    array-read-first-of-9
-    first-of-requires
+    (λ c. search needs) (λ c κs. search needs) (λ c. search needs) (λ c. search needs)
+    (λ c. search needs) (λ c. search needs) (λ c. search needs) (λ c. search needs) (λ c. search needs)
+    (λ c. search needs) (λ c. search needs) (λ c κs. search needs)
     returns-2)

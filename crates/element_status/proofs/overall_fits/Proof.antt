@@ -12,12 +12,6 @@ use borrow.Author.Needs.{needs}
 use Rattle.element_status.proofs.overall_fits.Statement.{statement}
 use Rattle.element_status.proofs.overall_fits.Tie as tie
 
-are-within-requires : tie.Need-are-within-requires
-are-within-requires c κs = search needs
-
-array-read-result : tie.Need-array-read-result
-array-read-result c = search needs
-
 returns : tie.Need-returns
 returns c =
     let x = c .before .args .t1 in
@@ -26,4 +20,4 @@ returns c =
     (λ i. e i && leb (getD x 0 0) 8) ∙ words-alone x h
 
 pub overall-fits-spec : {M : Type 1} → statement M
-overall-fits-spec = tie.close (tie.spec are-within-requires array-read-result returns)
+overall-fits-spec = tie.close (tie.spec (λ c κs. search needs) (λ c. search needs) returns)

@@ -11,21 +11,6 @@ use borrow.Author.Needs.{needs}
 use Rattle.ses.proofs.write_configuration.Statement.{statement}
 use Rattle.ses.proofs.write_configuration.Tie as tie
 
-shelf-slots-requires : tie.Need-shelf-slots-requires
-shelf-slots-requires c κs = search needs
-
-enum-told : tie.Need-enum-told
-enum-told c = search needs
-
-enum-told-2 : tie.Need-enum-told-2
-enum-told-2 c = search needs
-
-answer-requires : tie.Need-answer-requires
-answer-requires c κs = search needs
-
-refused-requires : tie.Need-refused-requires
-refused-requires c κs = search needs
-
 returns : tie.Need-returns
 returns c =
     let a = c .before .before .before .before .before .before .before .args in
@@ -36,9 +21,6 @@ returns c =
 
 write-requires : tie.Need-write-requires
 write-requires c κs = shelf-counted (now (c .before .before .before .before .before .before .args .shelf)) (c .before .enum-told .given .1) (c .before .before .before .shelf-slots .ensures) .1
-
-same-length : tie.Need-same-length
-same-length c = search needs
 
 returns-2 : tie.Need-returns-2
 returns-2 c =
@@ -52,12 +34,9 @@ pub write-configuration-spec : {M : Type 1} → statement M
 write-configuration-spec =
     tie.close
     (tie.spec
-    shelf-slots-requires
-    enum-told
-    enum-told-2
-    answer-requires
-    refused-requires
+    (λ c κs. search needs) (λ c. search needs) (λ c. search needs) (λ c κs. search needs)
+    (λ c κs. search needs)
     returns
     write-requires
-    same-length
+    (λ c. search needs)
     returns-2)

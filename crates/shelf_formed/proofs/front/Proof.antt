@@ -5,18 +5,6 @@ use borrow.Author.Needs.{needs}
 use Rattle.shelf_formed.proofs.front.Statement.{statement}
 use Rattle.shelf_formed.proofs.front.Tie as tie
 
-count-requires : tie.Need-count-requires
-count-requires c κs = search needs
-
-all-elements-requires : tie.Need-all-elements-requires
-all-elements-requires c κs = search needs
-
-head-formed-requires : tie.Need-head-formed-requires
-head-formed-requires c κs = search needs
-
-types-formed-requires : tie.Need-types-formed-requires
-types-formed-requires c κs = search needs
-
 returns : tie.Need-returns
 returns c =
     let s = now (c .before .before .before .before .before .before .args .shelf) in
@@ -35,9 +23,6 @@ pub front-spec : {M : Type 1} → statement M
 front-spec =
     tie.close
     (tie.spec
-    count-requires
-    all-elements-requires
-    head-formed-requires
-    types-formed-requires
+    (λ c κs. search needs) (λ c κs. search needs) (λ c κs. search needs) (λ c κs. search needs)
     returns
     returns-2)

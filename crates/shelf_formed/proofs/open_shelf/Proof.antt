@@ -11,26 +11,11 @@ use Rattle.shelf_formed.proofs.open_shelf.Tie as tie
 returns : tie.Need-returns
 returns c = too-short (now (c .before .before .args .shelf)) (c .if1 .taken)
 
-front-requires : tie.Need-front-requires
-front-requires c κs = search needs
-
-enum-known-front : tie.Need-enum-known-front
-enum-known-front c = search needs
-
-enum-told : tie.Need-enum-told
-enum-told c = search needs
-
 returns-2 : tie.Need-returns-2
 returns-2 c = no-front (now (c .before .before .before .before .before .args .shelf)) (sym (c .before .before .front .ensures) ∙ c .enum-told .given .1)
 
-block-length-requires : tie.Need-block-length-requires
-block-length-requires c κs = search needs
-
 returns-3 : tie.Need-returns-3
 returns-3 c = let s = now (c .before .before .before .before .before .before .before .before .args .shelf) in no-length s (sym (c .before .before .before .before .before .front .ensures) ∙ c .before .before .before .front2 .given .1) (ne-eqb (length s) _ (λ e. c .if2 .taken (e ∙ sym (c .before .block-length .ensures))))
-
-elements-formed-requires : tie.Need-elements-formed-requires
-elements-formed-requires c κs = search needs
 
 returns-4 : tie.Need-returns-4
 returns-4 c =
@@ -47,12 +32,10 @@ open-shelf-spec =
     tie.close
     (tie.spec
     returns
-    front-requires
-    enum-known-front
-    enum-told
+    (λ c κs. search needs) (λ c. search needs) (λ c. search needs)
     returns-2
-    block-length-requires
+    (λ c κs. search needs)
     returns-3
-    elements-formed-requires
+    (λ c κs. search needs)
     returns-4
     returns-5)

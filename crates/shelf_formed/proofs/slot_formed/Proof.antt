@@ -5,12 +5,6 @@ use borrow.Author.Needs.{needs}
 use Rattle.shelf_formed.proofs.slot_formed.Statement.{statement}
 use Rattle.shelf_formed.proofs.slot_formed.Tie as tie
 
-type-formed-requires : tie.Need-type-formed-requires
-type-formed-requires c κs = search needs
-
-type-empty-requires : tie.Need-type-empty-requires
-type-empty-requires c κs = search needs
-
 returns : tie.Need-returns
 unfolding slotFormed
 returns c = let s = c .before .before .before .args in rw (lt-ltb (s .t) (s .n) (c .before .if1 .taken)) (c .type-formed .ensures)
@@ -20,4 +14,4 @@ unfolding slotFormed
 returns-2 c = let s = c .before .before .before .args in rw (le-ltb (s .t) (s .n) (c .before .if1 .left)) (c .type-empty .ensures)
 
 pub slot-formed-spec : {M : Type 1} → statement M
-slot-formed-spec = tie.close (tie.spec type-formed-requires type-empty-requires returns returns-2)
+slot-formed-spec = tie.close (tie.spec (λ c κs. search needs) (λ c κs. search needs) returns returns-2)

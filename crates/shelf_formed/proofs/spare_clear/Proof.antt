@@ -5,18 +5,9 @@ use borrow.Author.Needs.{needs}
 use Rattle.shelf_formed.proofs.spare_clear.Statement.{statement}
 use Rattle.shelf_formed.proofs.spare_clear.Tie as tie
 
-element-place-requires : tie.Need-element-place-requires
-element-place-requires c κs = search needs
-
-add-big32-at : tie.Need-add-big32-at
-add-big32-at c = search needs
-
-big32-at-requires : tie.Need-big32-at-requires
-big32-at-requires c κs = search needs
-
 returns : tie.Need-returns
 returns c = let s = c .before .before .before .args in spare-said (now (s .shelf)) (s .j) (c .before .element-place .ensures) (c .big32-at .ensures)
 
 pub spare-clear-spec : {M : Type 1} → statement M
 spare-clear-spec =
-    tie.close (tie.spec element-place-requires add-big32-at big32-at-requires returns)
+    tie.close (tie.spec (λ c κs. search needs) (λ c. search needs) (λ c κs. search needs) returns)

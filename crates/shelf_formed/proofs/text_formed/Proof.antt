@@ -6,9 +6,6 @@ use Rattle.shelf_formed.proofs.Tests.{unprintable}
 use Rattle.shelf_formed.proofs.text_formed.Statement.{statement}
 use Rattle.shelf_formed.proofs.text_formed.Tie as tie
 
-text-printable-requires : tie.Need-text-printable-requires
-text-printable-requires c κs = search needs
-
 text-ended-requires : tie.Need-text-ended-requires
 text-ended-requires c κs = let p = c .before .before .before .pre in (p .0, (p .1 .0, (p .1 .1, sym (c .before .text-printable .ensures) ∙ c .if1 .taken)))
 
@@ -19,4 +16,4 @@ returns-2 : tie.Need-returns-2
 returns-2 c = let q = c .before .before .before in unprintable (now (q .args .shelf)) (q .args .t) (q .pre .1 .1) (q .pre .1 .0) (c .before .text-printable .ensures) (c .if1 .left)
 
 pub text-formed-spec : {M : Type 1} → statement M
-text-formed-spec = tie.close (tie.spec text-printable-requires text-ended-requires returns returns-2)
+text-formed-spec = tie.close (tie.spec (λ c κs. search needs) text-ended-requires returns returns-2)

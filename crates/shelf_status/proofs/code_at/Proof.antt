@@ -12,12 +12,6 @@ use borrow.Author.Needs.{needs}
 use Rattle.shelf_status.proofs.code_at.Statement.{statement}
 use Rattle.shelf_status.proofs.code_at.Tie as tie
 
-status-at-requires : tie.Need-status-at-requires
-status-at-requires c κs = search needs
-
-array-read-result : tie.Need-array-read-result
-array-read-result c = search needs
-
 returns : tie.Need-returns
 unfolding codeAt verdictAt shownAt
 returns c =
@@ -29,4 +23,4 @@ returns c =
     ∙ code-shown k (settingsOf k (settingsAt s j)) (readingAt s j) (nominalAt s j) (thresholdsAt s j)
 
 pub code-at-spec : {M : Type 1} → statement M
-code-at-spec = tie.close (tie.spec status-at-requires array-read-result returns)
+code-at-spec = tie.close (tie.spec (λ c κs. search needs) (λ c. search needs) returns)

@@ -7,21 +7,6 @@ use borrow.Author.Needs.{needs}
 use Rattle.shelf_status.proofs.status_at.Statement.{statement}
 use Rattle.shelf_status.proofs.status_at.Tie as tie
 
-settings-at-requires : tie.Need-settings-at-requires
-settings-at-requires c κs = search needs
-
-reading-at-requires : tie.Need-reading-at-requires
-reading-at-requires c κs = search needs
-
-nominal-at-requires : tie.Need-nominal-at-requires
-nominal-at-requires c κs = search needs
-
-thresholds-at-requires : tie.Need-thresholds-at-requires
-thresholds-at-requires c κs = search needs
-
-status-requires : tie.Need-status-requires
-status-requires c κs = search needs
-
 returns : tie.Need-returns
 unfolding shownAt
 returns c =
@@ -36,9 +21,6 @@ pub status-at-spec : {M : Type 1} → statement M
 status-at-spec =
     tie.close
     (tie.spec
-    settings-at-requires
-    reading-at-requires
-    nominal-at-requires
-    thresholds-at-requires
-    status-requires
+    (λ c κs. search needs) (λ c κs. search needs) (λ c κs. search needs) (λ c κs. search needs)
+    (λ c κs. search needs)
     returns)

@@ -7,21 +7,6 @@ use borrow.Author.Needs.{needs}
 use Rattle.status_record.proofs.put_entry.Statement.{statement}
 use Rattle.status_record.proofs.put_entry.Tie as tie
 
-slice-aggregate-copy : tie.Need-slice-aggregate-copy
-slice-aggregate-copy c = search needs
-
-entry-place-requires : tie.Need-entry-place-requires
-entry-place-requires c κs = search needs
-
-cast-copy : tie.Need-cast-copy
-cast-copy c = search needs
-
-copy-requires : tie.Need-copy-requires
-copy-requires c κs = search needs
-
-same-length : tie.Need-same-length
-same-length c = search needs
-
 returns : tie.Need-returns
 returns c = let s = c .before .before .before .before .before .before .before .args in let l : length (s .t3) ≡ 16 = search needs in entry-put (now (s .fields)) (s .i) (s .t3) l (c .before .before .before .entry-place .ensures) (c .before .before .copy .ensures)
 
@@ -29,9 +14,6 @@ pub put-entry-spec : {M : Type 1} → statement M
 put-entry-spec =
     tie.close
     (tie.spec
-    slice-aggregate-copy
-    entry-place-requires
-    cast-copy
-    copy-requires
-    same-length
+    (λ c. search needs) (λ c κs. search needs) (λ c. search needs) (λ c κs. search needs)
+    (λ c. search needs)
     returns)

@@ -11,15 +11,6 @@ use borrow.Author.Needs.{needs}
 use Rattle.status_rewritten.proofs.entry_formed.Statement.{statement}
 use Rattle.status_rewritten.proofs.entry_formed.Tie as tie
 
-entry-at-requires : tie.Need-entry-at-requires
-entry-at-requires c κs = search needs
-
-overall-fits-requires : tie.Need-overall-fits-requires
-overall-fits-requires c κs = search needs
-
-fits-requires : tie.Need-fits-requires
-fits-requires c κs = search needs
-
 returns : tie.Need-returns
 returns c =
     let s = c .before .before .before .before .args in
@@ -42,4 +33,8 @@ returns-2 c =
 
 pub entry-formed-spec : {M : Type 1} → statement M
 entry-formed-spec =
-    tie.close (tie.spec entry-at-requires overall-fits-requires fits-requires returns returns-2)
+    tie.close
+    (tie.spec
+    (λ c κs. search needs) (λ c κs. search needs) (λ c κs. search needs)
+    returns
+    returns-2)

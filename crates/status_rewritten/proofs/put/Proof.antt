@@ -8,15 +8,6 @@ use borrow.Author.Needs.{needs}
 use Rattle.status_rewritten.proofs.put.Statement.{statement}
 use Rattle.status_rewritten.proofs.put.Tie as tie
 
-bits-at-requires : tie.Need-bits-at-requires
-bits-at-requires c κs = search needs
-
-byte-requires : tie.Need-byte-requires
-byte-requires c κs = search needs
-
-put-requires : tie.Need-put-requires
-put-requires c κs = search needs
-
 put-slots-requires : tie.Need-put-slots-requires
 put-slots-requires c κs =
     let s = c .before .before .before .before .before .before .before .before .before .before .before .args in
@@ -24,9 +15,6 @@ put-slots-requires c κs =
     let b = slots-bound (now (s .configuration)) (p .0 .0) in
     let l = head-length (now (s .configuration)) (now (s .out)) 0x02 _ (s .n) (c .before .before .before .before .put .ensures) in
     (p .0, (omega (arith, p .1 .0), (omega (arith, p .1 .0, b), omega (arith, p .1 .1, l))))
-
-same-length : tie.Need-same-length
-same-length c = search needs
 
 returns : tie.Need-returns
 returns c =
@@ -40,4 +28,8 @@ returns c =
 pub put-spec : {M : Type 1} → statement M
 put-spec =
     tie.close
-    (tie.spec bits-at-requires byte-requires put-requires put-slots-requires same-length returns)
+    (tie.spec
+    (λ c κs. search needs) (λ c κs. search needs) (λ c κs. search needs)
+    put-slots-requires
+    (λ c. search needs)
+    returns)

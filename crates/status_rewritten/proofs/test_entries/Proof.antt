@@ -8,14 +8,8 @@ use borrow.Author.Needs.{needs}
 use Rattle.status_rewritten.proofs.test_entries.Statement.{statement}
 use Rattle.status_rewritten.proofs.test_entries.Tie as tie
 
-count-requires : tie.Need-count-requires
-count-requires c κs = search needs
-
 returns : tie.Need-returns
 returns c = let s = c .before .before .before .before .args in other-entries (now (s .configuration)) (now (s .fields)) (s .n) (c .before .count .ensures) (c .if1 .taken)
-
-bits-formed-requires : tie.Need-bits-formed-requires
-bits-formed-requires c κs = search needs
 
 returns-2 : tie.Need-returns-2
 returns-2 c =
@@ -47,9 +41,9 @@ pub test-entries-spec : {M : Type 1} → statement M
 test-entries-spec =
     tie.close
     (tie.spec
-    count-requires
+    (λ c κs. search needs)
     returns
-    bits-formed-requires
+    (λ c κs. search needs)
     returns-2
     entries-formed-requires
     returns-3

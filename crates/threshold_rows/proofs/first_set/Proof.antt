@@ -6,18 +6,6 @@ use borrow.Author.Needs.{needs}
 use Rattle.threshold_rows.proofs.first_set.Statement.{statement}
 use Rattle.threshold_rows.proofs.first_set.Tie as tie
 
-array-read-if1 : tie.Need-array-read-if1
-array-read-if1 c = search needs
-
-array-read-if2 : tie.Need-array-read-if2
-array-read-if2 c = search needs
-
-array-read-if3 : tie.Need-array-read-if3
-array-read-if3 c = search needs
-
-array-read-if4 : tie.Need-array-read-if4
-array-read-if4 c = search needs
-
 returns : tie.Need-returns
 unfolding firstSet
 returns c = rw (ne-eqb (getD (c .before .args .t1) 0 0) 0 (c .if1 .taken))
@@ -42,10 +30,7 @@ pub first-set-spec : {M : Type 1} → statement M
 first-set-spec =
     tie.close
     (tie.spec
-    array-read-if1
-    array-read-if2
-    array-read-if3
-    array-read-if4
+    (λ c. search needs) (λ c. search needs) (λ c. search needs) (λ c. search needs)
     returns
     returns-2
     returns-3

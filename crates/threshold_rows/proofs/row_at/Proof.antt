@@ -6,14 +6,8 @@ use borrow.Author.Needs.{needs}
 use Rattle.threshold_rows.proofs.row_at.Statement.{statement}
 use Rattle.threshold_rows.proofs.row_at.Tie as tie
 
-row-place-requires : tie.Need-row-place-requires
-row-place-requires c κs = search needs
-
-four-at-requires : tie.Need-four-at-requires
-four-at-requires c κs = search needs
-
 returns : tie.Need-returns
 returns c = c .four-at .ensures ∙ ap (fourAt (now (c .before .before .before .args .block))) (c .before .row-place .ensures)
 
 pub row-at-spec : {M : Type 1} → statement M
-row-at-spec = tie.close (tie.spec row-place-requires four-at-requires returns)
+row-at-spec = tie.close (tie.spec (λ c κs. search needs) (λ c κs. search needs) returns)

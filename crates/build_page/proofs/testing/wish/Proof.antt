@@ -9,26 +9,11 @@ use borrow.Author.Needs.{needs}
 use Rattle.build_page.proofs.testing.wish.Statement.{statement}
 use Rattle.build_page.proofs.testing.wish.Tie as tie
 
-shelf-requires : tie.Need-shelf-requires
-shelf-requires c κs = search needs
-
-enum-told : tie.Need-enum-told
-enum-told c = search needs
-
-enum-told-2 : tie.Need-enum-told-2
-enum-told-2 c = search needs
-
 returns : tie.Need-returns
 returns c = let s = c .before .before .before .before .before .args in shelf-refused (now (s .shelf)) (now (s .wanted)) (c .before .before .shelf .ensures) (c .enum-told2 .given .1)
 
 all-elements-requires : tie.Need-all-elements-requires
 all-elements-requires c κs = shelf-has (now (c .before .before .before .before .before .args .shelf)) (c .before .before .shelf .ensures) (c .enum-told .given .1)
-
-cast-if1 : tie.Need-cast-if1
-cast-if1 c = search needs
-
-mul-if1 : tie.Need-mul-if1
-mul-if1 c = search needs
 
 returns-2 : tie.Need-returns-2
 returns-2 c = let s = c .before .before .before .before .before .before .before .args in other-number (now (s .shelf)) (now (s .wanted)) (c .before .before .before .before .shelf .ensures) (c .before .before .enum-told .given .1) (c .before .all-elements .ensures) (c .if1 .taken)
@@ -54,13 +39,10 @@ pub wish-spec : {M : Type 1} → statement M
 wish-spec =
     tie.close
     (tie.spec
-    shelf-requires
-    enum-told
-    enum-told-2
+    (λ c κs. search needs) (λ c. search needs) (λ c. search needs)
     returns
     all-elements-requires
-    cast-if1
-    mul-if1
+    (λ c. search needs) (λ c. search needs)
     returns-2
     may-be-requires
     returns-3

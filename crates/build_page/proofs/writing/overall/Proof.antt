@@ -9,15 +9,6 @@ use borrow.Author.Needs.{needs}
 use Rattle.build_page.proofs.writing.overall.Statement.{statement}
 use Rattle.build_page.proofs.writing.overall.Tie as tie
 
-overall-requires : tie.Need-overall-requires
-overall-requires c κs = search needs
-
-slice-aggregate-big32-at : tie.Need-slice-aggregate-big32-at
-slice-aggregate-big32-at c = search needs
-
-big32-at-requires : tie.Need-big32-at-requires
-big32-at-requires c κs = search needs
-
 returns : tie.Need-returns
 returns c =
     let s = c .before .before .before .before .before .before .args in
@@ -35,5 +26,4 @@ returns-2 c = let s = c .before .before .before .args in number-stands (now (s .
 
 pub overall-spec : {M : Type 1} → statement M
 overall-spec =
-    tie.close
-    (tie.spec overall-requires slice-aggregate-big32-at big32-at-requires returns returns-2)
+    tie.close (tie.spec (λ c κs. search needs) (λ c. search needs) (λ c κs. search needs) returns returns-2)

@@ -7,9 +7,6 @@ use borrow.Author.Needs.{needs}
 use Rattle.build_page.proofs.writing.row.Statement.{statement}
 use Rattle.build_page.proofs.writing.row.Tie as tie
 
-four-of-requires : tie.Need-four-of-requires
-four-of-requires c κs = search needs
-
 returns : tie.Need-returns
 returns c = let s = c .before .before .before .before .args in row-overall (now (s .shelf)) (now (s .wanted)) (s .at) (bytes 4 (s .overall)) (c .if1 .taken) (c .before .four-of .ensures)
 
@@ -19,9 +16,6 @@ settings-at-requires c κs = let q = c .before .before .before .before in omega 
 settings-in-requires : tie.Need-settings-in-requires
 settings-in-requires c κs = let q = c .before .before .before .before .before in omega (arith, q .pre .1, q .pre .0 .1 (c .before .if1 .left))
 
-one-requires : tie.Need-one-requires
-one-requires c κs = search needs
-
 returns-2 : tie.Need-returns-2
 returns-2 c = let s = c .before .before .before .before .before .before .before .args in row-own (now (s .shelf)) (now (s .wanted)) (s .at) (bytes 4 (s .overall)) (c .before .before .before .if1 .left) (c .before .before .before .before .four-of .ensures) (c .before .before .settings-at .ensures) (c .before .settings-in .ensures) (c .one .ensures)
 
@@ -29,9 +23,9 @@ pub row-spec : {M : Type 1} → statement M
 row-spec =
     tie.close
     (tie.spec
-    four-of-requires
+    (λ c κs. search needs)
     returns
     settings-at-requires
     settings-in-requires
-    one-requires
+    (λ c κs. search needs)
     returns-2)

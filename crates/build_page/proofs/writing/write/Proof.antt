@@ -12,12 +12,6 @@ use Rattle.build_page.proofs.writing.write.Tie as tie
 count-requires : tie.Need-count-requires
 count-requires c κs = let q = c .before .before .before in shelf-there (now (q .args .shelf)) (q .pre .0) .1
 
-slot-place-requires : tie.Need-slot-place-requires
-slot-place-requires c κs = search needs
-
-cast-if1 : tie.Need-cast-if1
-cast-if1 c = search needs
-
 returns : tie.Need-returns
 returns c = let s = c .before .before .before .before .before .before .args in (no-room (now (s .shelf)) (now (s .wanted)) (now (s .out)) (c .before .before .count .ensures) (c .before .slot-place .ensures) (c .if1 .taken), refl)
 
@@ -31,9 +25,6 @@ put-slots-requires c κs =
     let n = a .before .before .count .ensures in
     let h = head-length (now (q .args .shelf)) (now (q .args .out)) 2 0 _ (c .before .before .before .put .ensures) in
     ((q .pre .0, omega (arith, n, a .before .slot-place .ensures, a .if1 .left, h)), (n, q .pre .1))
-
-same-length : tie.Need-same-length
-same-length c = search needs
 
 returns-2 : tie.Need-returns-2
 returns-2 c =
@@ -51,10 +42,9 @@ write-spec =
     tie.close
     (tie.spec
     count-requires
-    slot-place-requires
-    cast-if1
+    (λ c κs. search needs) (λ c. search needs)
     returns
     put-requires
     put-slots-requires
-    same-length
+    (λ c. search needs)
     returns-2)

@@ -9,20 +9,8 @@ use borrow.Author.Needs.{needs}
 use Rattle.configuration_page.proofs.reading.first_offence.Statement.{statement}
 use Rattle.configuration_page.proofs.reading.first_offence.Tie as tie
 
-fixed-offence-requires : tie.Need-fixed-offence-requires
-fixed-offence-requires c κs = search needs
-
 returns : tie.Need-returns
 returns c = let s = c .before .before .before in found-in (now (s .args .page)) (headerPlace 0) (s .args .n) (c .before .fixed-offence .ensures) (c .if1 .taken) (omega arith)
-
-types-on-requires : tie.Need-types-on-requires
-types-on-requires c κs = search needs
-
-header-place-requires : tie.Need-header-place-requires
-header-place-requires c κs = search needs
-
-headers-offence-requires : tie.Need-headers-offence-requires
-headers-offence-requires c κs = search needs
 
 returns-2 : tie.Need-returns-2
 returns-2 c = let s = c .before .before .before .before .before .before .before in let h = c .before .before .header-place .ensures in found-in (now (s .args .page)) (headerPlace (c .before .before .before .types-on .result)) (s .args .n) (c .before .headers-offence .ensures) (λ e. omega (arith, c .if2 .taken, e, h)) (omega (arith, c .before .before .before .types-on .ensures))
@@ -38,11 +26,9 @@ pub first-offence-spec : {M : Type 1} → statement M
 first-offence-spec =
     tie.close
     (tie.spec
-    fixed-offence-requires
+    (λ c κs. search needs)
     returns
-    types-on-requires
-    header-place-requires
-    headers-offence-requires
+    (λ c κs. search needs) (λ c κs. search needs) (λ c κs. search needs)
     returns-2
     texts-offence-requires
     returns-3)

@@ -11,14 +11,8 @@ use borrow.Author.Needs.{needs}
 use Rattle.configuration_page.proofs.reading.fixed_offence.Statement.{statement}
 use Rattle.configuration_page.proofs.reading.fixed_offence.Tie as tie
 
-byte-at-requires : tie.Need-byte-at-requires
-byte-at-requires c κs = search needs
-
 returns : tie.Need-returns
 returns c = let p = now (c .before .before .before .args .page) in fixed-1 p (ne-eqb _ 0 (λ e. c .if1 .taken (c .before .byte-at .ensures ∙ e)))
-
-byte-at-requires-2 : tie.Need-byte-at-requires-2
-byte-at-requires-2 c κs = search needs
 
 returns-2 : tie.Need-returns-2
 returns-2 c =
@@ -26,18 +20,12 @@ returns-2 c =
     fixed-8 p (eq-eqb _ 0 (sym (c .before .before .before .byte-at .ensures) ∙ c .before .before .if1 .left))
     (ne-eqb _ 17 (λ e. c .if2 .taken (c .before .byte-at2 .ensures ∙ e)))
 
-byte-at-requires-3 : tie.Need-byte-at-requires-3
-byte-at-requires-3 c κs = search needs
-
 returns-3 : tie.Need-returns-3
 returns-3 c =
     let p = now (c .before .before .before .before .before .before .before .args .page) in
     fixed-9 p (eq-eqb _ 0 (sym (c .before .before .before .before .before .byte-at .ensures) ∙ c .before .before .before .before .if1 .left))
     (eq-eqb _ 17 (sym (c .before .before .before .byte-at2 .ensures) ∙ c .before .before .if2 .left))
     (ne-eqb _ 0 (λ e. c .if3 .taken (c .before .byte-at3 .ensures ∙ e)))
-
-types-on-requires : tie.Need-types-on-requires
-types-on-requires c κs = search needs
 
 returns-4 : tie.Need-returns-4
 returns-4 c =
@@ -47,9 +35,6 @@ returns-4 c =
     (eq-eqb _ 17 (sym (c .before .before .before .before .before .byte-at2 .ensures) ∙ c .before .before .before .before .if2 .left))
     (eq-eqb _ 0 (sym (c .before .before .before .byte-at3 .ensures) ∙ c .before .before .if3 .left))
     (ap (λ (n : ℕ). leb 1 n && leb n mostTypes) (sym (c .before .types-on .ensures)) ∙ not-true _ (c .if4 .taken))
-
-byte-at-requires-4 : tie.Need-byte-at-requires-4
-byte-at-requires-4 c κs = search needs
 
 returns-5 : tie.Need-returns-5
 returns-5 c =
@@ -75,14 +60,14 @@ pub fixed-offence-spec : {M : Type 1} → statement M
 fixed-offence-spec =
     tie.close
     (tie.spec
-    byte-at-requires
+    (λ c κs. search needs)
     returns
-    byte-at-requires-2
+    (λ c κs. search needs)
     returns-2
-    byte-at-requires-3
+    (λ c κs. search needs)
     returns-3
-    types-on-requires
+    (λ c κs. search needs)
     returns-4
-    byte-at-requires-4
+    (λ c κs. search needs)
     returns-5
     returns-6)

@@ -13,26 +13,14 @@ byte-at-requires c κs = let s = c .before .before in omega (arith, headers-in (
 four-at-requires : tie.Need-four-at-requires
 four-at-requires c κs = let s = c .before .before .before .before in omega (arith, headers-in (now (s .args .page)) (s .pre .0))
 
-put-four-requires : tie.Need-put-four-requires
-put-four-requires c κs = search needs
-
-cast-copy : tie.Need-cast-copy
-cast-copy c = search needs
-
 copy-requires : tie.Need-copy-requires
 copy-requires c κs = let s = c .before .before .before .before .before .before .before .before .before in let h = headers-in (now (s .args .page)) (s .pre .0) in (omega arith, omega arith)
-
-put-four-requires-2 : tie.Need-put-four-requires-2
-put-four-requires-2 c κs = search needs
 
 put-types-requires : tie.Need-put-types-requires
 put-types-requires c κs =
     let s = c .before .before .before .before .before .before .before .before .before .before .before .before .before .before .before .before .before
     in
     (s .pre .0, omega (arith, s .pre .1))
-
-same-length : tie.Need-same-length
-same-length c = search needs
 
 returns : tie.Need-returns
 returns c =
@@ -51,10 +39,9 @@ hand-over-spec =
     (tie.spec
     byte-at-requires
     four-at-requires
-    put-four-requires
-    cast-copy
+    (λ c κs. search needs) (λ c. search needs)
     copy-requires
-    put-four-requires-2
+    (λ c κs. search needs)
     put-types-requires
-    same-length
+    (λ c. search needs)
     returns)

@@ -10,20 +10,8 @@ use borrow.Author.Needs.{needs}
 use Rattle.configuration_page.proofs.reading.has_headers.Statement.{statement}
 use Rattle.configuration_page.proofs.reading.has_headers.Tie as tie
 
-cast-if1 : tie.Need-cast-if1
-cast-if1 c = search needs
-
 returns : tie.Need-returns
 returns c = let p = now (c .before .before .args .page) in sym (lt-leb (headerPlace (typesOn p)) (length p) (omega arith))
-
-types-on-requires : tie.Need-types-on-requires
-types-on-requires c κs = search needs
-
-header-place-requires : tie.Need-header-place-requires
-header-place-requires c κs = search needs
-
-cast-result : tie.Need-cast-result
-cast-result c = search needs
 
 returns-2 : tie.Need-returns-2
 returns-2 c = rw (c .header-place .ensures, c .before .types-on .ensures)
@@ -31,4 +19,8 @@ returns-2 c = rw (c .header-place .ensures, c .before .types-on .ensures)
 pub has-headers-spec : {M : Type 1} → statement M
 has-headers-spec =
     tie.close
-    (tie.spec cast-if1 returns types-on-requires header-place-requires cast-result returns-2)
+    (tie.spec
+    (λ c. search needs)
+    returns
+    (λ c κs. search needs) (λ c κs. search needs) (λ c. search needs)
+    returns-2)

@@ -6,21 +6,6 @@ use borrow.Author.Needs.{needs}
 use Rattle.configuration_page.proofs.reading.head_told.Statement.{statement}
 use Rattle.configuration_page.proofs.reading.head_told.Tie as tie
 
-types-on-requires : tie.Need-types-on-requires
-types-on-requires c κs = search needs
-
-header-on-requires : tie.Need-header-on-requires
-header-on-requires c κs = search needs
-
-array-read-t10 : tie.Need-array-read-t10
-array-read-t10 c = search needs
-
-array-read-t13 : tie.Need-array-read-t13
-array-read-t13 c = search needs
-
-array-read-t16 : tie.Need-array-read-t16
-array-read-t16 c = search needs
-
 returns : tie.Need-returns
 returns c = let s = c .before .before .before .before .args in told-head (now (s .page)) (s .t) (omega (arith, c .before .if1 .taken, c .before .before .types-on .ensures)) (c .header-on .ensures)
 
@@ -31,10 +16,7 @@ pub head-told-spec : {M : Type 1} → statement M
 head-told-spec =
     tie.close
     (tie.spec
-    types-on-requires
-    header-on-requires
-    array-read-t10
-    array-read-t13
-    array-read-t16
+    (λ c κs. search needs) (λ c κs. search needs) (λ c. search needs) (λ c. search needs)
+    (λ c. search needs)
     returns
     returns-2)

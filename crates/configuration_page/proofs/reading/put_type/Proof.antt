@@ -10,39 +10,12 @@ use Rattle.configuration_page.proofs.reading.put_type.Tie as tie
 head-told-requires : tie.Need-head-told-requires
 head-told-requires c κs = let s = c .before .before in headers-in (now (s .args .page)) (s .pre .0)
 
-array-read-bytes : tie.Need-array-read-bytes
-array-read-bytes c = search needs
-
-cast-bytes : tie.Need-cast-bytes
-cast-bytes c = search needs
-
 text-told-requires : tie.Need-text-told-requires
 text-told-requires c κs =
     let s = c .before .before .before in
     let p = now (s .args .page) in
     let n = head-length p (s .args .t) (c .head-told .ensures) in
     (rw (n, s .pre .1 .1 .0) (told-in p (s .pre .0) (s .args .t) (s .pre .1 .0)), rw n (told-short p (s .pre .0) (s .args .t)))
-
-type-place-requires : tie.Need-type-place-requires
-type-place-requires c κs = search needs
-
-put-four-requires : tie.Need-put-four-requires
-put-four-requires c κs = search needs
-
-slice-aggregate-copy : tie.Need-slice-aggregate-copy
-slice-aggregate-copy c = search needs
-
-text-place-requires : tie.Need-text-place-requires
-text-place-requires c κs = search needs
-
-cast-copy : tie.Need-cast-copy
-cast-copy c = search needs
-
-copy-requires : tie.Need-copy-requires
-copy-requires c κs = search needs
-
-same-length : tie.Need-same-length
-same-length c = search needs
 
 returns : tie.Need-returns
 returns c =
@@ -63,14 +36,8 @@ put-type-spec =
     tie.close
     (tie.spec
     head-told-requires
-    array-read-bytes
-    cast-bytes
+    (λ c. search needs) (λ c. search needs)
     text-told-requires
-    type-place-requires
-    put-four-requires
-    slice-aggregate-copy
-    text-place-requires
-    cast-copy
-    copy-requires
-    same-length
+    (λ c κs. search needs) (λ c κs. search needs) (λ c. search needs) (λ c κs. search needs)
+    (λ c. search needs) (λ c κs. search needs) (λ c. search needs)
     returns)

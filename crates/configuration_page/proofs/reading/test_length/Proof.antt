@@ -11,17 +11,11 @@ use borrow.Author.Needs.{needs}
 use Rattle.configuration_page.proofs.reading.test_length.Statement.{statement}
 use Rattle.configuration_page.proofs.reading.test_length.Tie as tie
 
-has-headers-requires : tie.Need-has-headers-requires
-has-headers-requires c κs = search needs
-
 returns : tie.Need-returns
 returns c = no-headers (now (c .before .before .before .args .page)) (sym (c .before .has-headers .ensures) ∙ not-true _ (c .if1 .taken))
 
 needed-length-requires : tie.Need-needed-length-requires
 needed-length-requires c κs = let p = now (c .before .before .before .args .page) in leb-true (headerPlace (typesOn p)) (length p) (sym (c .before .has-headers .ensures) ∙ not-false _ (c .if1 .left))
-
-test-length-requires : tie.Need-test-length-requires
-test-length-requires c κs = search needs
 
 returns-2 : tie.Need-returns-2
 returns-2 c = c .test-length .ensures ∙ ap (lengthTested (now (c .before .before .before .before .before .args .page))) (c .before .needed-length .ensures)
@@ -29,4 +23,9 @@ returns-2 c = c .test-length .ensures ∙ ap (lengthTested (now (c .before .befo
 pub test-length-spec : {M : Type 1} → statement M
 test-length-spec =
     tie.close
-    (tie.spec has-headers-requires returns needed-length-requires test-length-requires returns-2)
+    (tie.spec
+    (λ c κs. search needs)
+    returns
+    needed-length-requires
+    (λ c κs. search needs)
+    returns-2)

@@ -6,12 +6,9 @@ use Rattle.configuration_page.specs.Read.{textOffends}
 use Rattle.configuration_page.proofs.reading.text_offends.Statement.{statement}
 use Rattle.configuration_page.proofs.reading.text_offends.Tie as tie
 
-is-printable-requires : tie.Need-is-printable-requires
-is-printable-requires c κs = search needs
-
 returns : tie.Need-returns
 unfolding textOffends
 returns c = ap not (c .is-printable .ensures)
 
 pub text-offends-spec : {M : Type 1} → statement M
-text-offends-spec = tie.close (tie.spec is-printable-requires returns)
+text-offends-spec = tie.close (tie.spec (λ c κs. search needs) returns)

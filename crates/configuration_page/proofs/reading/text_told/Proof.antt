@@ -9,12 +9,6 @@ use borrow.Author.Needs.{needs}
 use Rattle.configuration_page.proofs.reading.text_told.Statement.{statement}
 use Rattle.configuration_page.proofs.reading.text_told.Tie as tie
 
-slice-aggregate-copy : tie.Need-slice-aggregate-copy
-slice-aggregate-copy c = search needs
-
-copy-requires : tie.Need-copy-requires
-copy-requires c κs = search needs
-
 returns : tie.Need-returns
 returns c =
     let s = c .before .before .before .before in
@@ -23,4 +17,4 @@ returns c =
     c .before .copy .ensures ∙ put-zeros (bytesAt p (s .args .start) n) n mostText (length-bytes-at p (s .args .start) n) (s .pre .1)
 
 pub text-told-spec : {M : Type 1} → statement M
-text-told-spec = tie.close (tie.spec slice-aggregate-copy copy-requires returns)
+text-told-spec = tie.close (tie.spec (λ c. search needs) (λ c κs. search needs) returns)

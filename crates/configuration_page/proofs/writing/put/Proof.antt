@@ -7,9 +7,6 @@ use borrow.Author.Needs.{needs}
 use Rattle.configuration_page.proofs.writing.put.Statement.{statement}
 use Rattle.configuration_page.proofs.writing.put.Tie as tie
 
-count-requires : tie.Need-count-requires
-count-requires c κs = search needs
-
 sub-put-fixed : tie.Need-sub-put-fixed
 sub-put-fixed c = let s = c .before .before .before in omega (arith, headers-first (now (s .args .front)) (s .pre .1 .0))
 
@@ -32,9 +29,6 @@ put-texts-requires c κs =
     let p = c .before .before .before .before .before .before .before .before .before .before .before .before .pre in
     (p .0, (c .before .before .before .before .before .before .before .before .before .count .ensures, omega (arith, p .1 .0, p .1 .1)))
 
-same-length : tie.Need-same-length
-same-length c = search needs
-
 returns : tie.Need-returns
 returns c =
     let s = c .before .before .before .before .before .before .before .before .before .before .before .before .before .before .before .args in
@@ -48,10 +42,10 @@ pub put-spec : {M : Type 1} → statement M
 put-spec =
     tie.close
     (tie.spec
-    count-requires
+    (λ c κs. search needs)
     sub-put-fixed
     put-fixed-requires
     put-headers-requires
     put-texts-requires
-    same-length
+    (λ c. search needs)
     returns)

@@ -9,18 +9,6 @@ use borrow.Author.Needs.{needs}
 use Rattle.configuration_page.proofs.writing.write.Statement.{statement}
 use Rattle.configuration_page.proofs.writing.write.Tie as tie
 
-length-requires : tie.Need-length-requires
-length-requires c κs = search needs
-
-fit-requires : tie.Need-fit-requires
-fit-requires c κs = search needs
-
-enum-told : tie.Need-enum-told
-enum-told c = search needs
-
-enum-told-2 : tie.Need-enum-told-2
-enum-told-2 c = search needs
-
 returns : tie.Need-returns
 returns c =
     let s = c .before .before .before .before .before .before .args in
@@ -37,9 +25,6 @@ put-requires c κs =
       (c .before .before .before .before .length .ensures, write-room Accepted (configurationPage f) (now (s .out)) refl refl l (c .before .before .before .fit .ensures) (c .before .enum-told .given .1)),
     )
 
-same-length : tie.Need-same-length
-same-length c = search needs
-
 returns-2 : tie.Need-returns-2
 returns-2 c =
     let s = c .before .before .before .before .before .before .before .before .before .before .args in
@@ -52,11 +37,8 @@ pub write-spec : {M : Type 1} → statement M
 write-spec =
     tie.close
     (tie.spec
-    length-requires
-    fit-requires
-    enum-told
-    enum-told-2
+    (λ c κs. search needs) (λ c κs. search needs) (λ c. search needs) (λ c. search needs)
     returns
     put-requires
-    same-length
+    (λ c. search needs)
     returns-2)

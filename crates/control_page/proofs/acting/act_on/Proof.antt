@@ -6,17 +6,8 @@ use borrow.Author.Needs.{needs}
 use Rattle.control_page.proofs.acting.act_on.Statement.{statement}
 use Rattle.control_page.proofs.acting.act_on.Tie as tie
 
-four-at-requires : tie.Need-four-at-requires
-four-at-requires c κs = search needs
-
-is-selected-requires : tie.Need-is-selected-requires
-is-selected-requires c κs = search needs
-
 act-by-requires : tie.Need-act-by-requires
 act-by-requires c κs = (c .before .before .before .before .before .before .pre .0, sym (c .before .before .is-selected .ensures) ∙ c .before .if1 .taken)
-
-same-length : tie.Need-same-length
-same-length c = search needs
 
 returns : tie.Need-returns
 returns c =
@@ -26,17 +17,8 @@ returns c =
     (sym (c .before .before .before .before .before .is-selected .ensures) ∙ c .before .before .before .before .if1 .taken)
     (c .before .before .act-by .ensures)
 
-four-at-requires-2 : tie.Need-four-at-requires-2
-four-at-requires-2 c κs = search needs
-
-is-selected-requires-2 : tie.Need-is-selected-requires-2
-is-selected-requires-2 c κs = search needs
-
 act-by-requires-2 : tie.Need-act-by-requires-2
 act-by-requires-2 c κs = (c .before .before .before .before .before .before .before .before .before .pre .0, sym (c .before .before .is-selected2 .ensures) ∙ c .before .if2 .taken)
-
-same-length-2 : tie.Need-same-length-2
-same-length-2 c = search needs
 
 returns-2 : tie.Need-returns-2
 returns-2 c =
@@ -60,14 +42,12 @@ pub act-on-spec : {M : Type 1} → statement M
 act-on-spec =
     tie.close
     (tie.spec
-    four-at-requires
-    is-selected-requires
+    (λ c κs. search needs) (λ c κs. search needs)
     act-by-requires
-    same-length
+    (λ c. search needs)
     returns
-    four-at-requires-2
-    is-selected-requires-2
+    (λ c κs. search needs) (λ c κs. search needs)
     act-by-requires-2
-    same-length-2
+    (λ c. search needs)
     returns-2
     returns-3)

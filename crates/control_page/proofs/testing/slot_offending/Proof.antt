@@ -4,18 +4,9 @@ use borrow.Author.Needs.{needs}
 use Rattle.control_page.proofs.testing.slot_offending.Statement.{statement}
 use Rattle.control_page.proofs.testing.slot_offending.Tie as tie
 
-slot-place-requires : tie.Need-slot-place-requires
-slot-place-requires c κs = search needs
-
-four-at-requires : tie.Need-four-at-requires
-four-at-requires c κs = search needs
-
-offending-requires : tie.Need-offending-requires
-offending-requires c κs = search needs
-
 returns : tie.Need-returns
 returns c = c .offending .ensures ∙ rw (c .before .four-at .ensures, c .before .before .slot-place .ensures)
 
 pub slot-offending-spec : {M : Type 1} → statement M
 slot-offending-spec =
-    tie.close (tie.spec slot-place-requires four-at-requires offending-requires returns)
+    tie.close (tie.spec (λ c κs. search needs) (λ c κs. search needs) (λ c κs. search needs) returns)

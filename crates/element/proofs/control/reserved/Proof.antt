@@ -9,18 +9,12 @@ use borrow.Author.Needs.{needs}
 use Rattle.element.proofs.control.reserved.Statement.{statement}
 use Rattle.element.proofs.control.reserved.Tie as tie
 
-settings-requires : tie.Need-settings-requires
-settings-requires c κs = search needs
-
 add-first-outside : tie.Need-add-first-outside
 add-first-outside c = let h = settings-small (c .before .args .kind) in let e = c .settings .ensures in omega arith
-
-first-outside-requires : tie.Need-first-outside-requires
-first-outside-requires c κs = search needs
 
 returns : tie.Need-returns
 returns c = let s = c .before .before .args in c .first-outside .ensures ∙ ap (λ (n : ℕ). firstOutside (bytes 4 (2147483648 + n)) (s .e)) (c .before .settings .ensures) ∙ reserved-outside (s .kind) (s .e)
 
 pub reserved-spec : {M : Type 1} → statement M
 reserved-spec =
-    tie.close (tie.spec settings-requires add-first-outside first-outside-requires returns)
+    tie.close (tie.spec (λ c κs. search needs) add-first-outside (λ c κs. search needs) returns)

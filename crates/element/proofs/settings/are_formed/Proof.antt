@@ -16,18 +16,6 @@ use borrow.Author.Needs.{needs}
 use Rattle.element.proofs.settings.are_formed.Statement.{statement}
 use Rattle.element.proofs.settings.are_formed.Tie as tie
 
-speed-requires : tie.Need-speed-requires
-speed-requires c κs = search needs
-
-settings-requires : tie.Need-settings-requires
-settings-requires c κs = search needs
-
-are-within-requires : tie.Need-are-within-requires
-are-within-requires c κs = search needs
-
-array-read-result : tie.Need-array-read-result
-array-read-result c = search needs
-
 returns : tie.Need-returns
 unfolding settingsFormed layoutOf
 returns c =
@@ -41,4 +29,6 @@ returns c =
 pub are-formed-spec : {M : Type 1} → statement M
 are-formed-spec =
     tie.close
-    (tie.spec speed-requires settings-requires are-within-requires array-read-result returns)
+    (tie.spec
+    (λ c κs. search needs) (λ c κs. search needs) (λ c κs. search needs) (λ c. search needs)
+    returns)

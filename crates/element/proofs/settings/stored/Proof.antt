@@ -4,14 +4,8 @@ use borrow.Author.Needs.{needs}
 use Rattle.element.proofs.settings.stored.Statement.{statement}
 use Rattle.element.proofs.settings.stored.Tie as tie
 
-nibble-requires : tie.Need-nibble-requires
-nibble-requires c κs = search needs
-
-join-requires : tie.Need-join-requires
-join-requires c κs = search needs
-
 returns : tie.Need-returns
 returns c = let a = c .before .before .before .before .before .before .before .before in let s = a .before .before .args in stored-is (s .layout) (s .s) (a .before .nibble .ensures) (a .join .ensures)
 
 pub stored-spec : {M : Type 1} → statement M
-stored-spec = tie.close (tie.spec nibble-requires join-requires returns)
+stored-spec = tie.close (tie.spec (λ c κs. search needs) (λ c κs. search needs) returns)

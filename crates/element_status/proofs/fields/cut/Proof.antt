@@ -8,12 +8,6 @@ use borrow.Author.Needs.{needs}
 use Rattle.element_status.proofs.fields.cut.Statement.{statement}
 use Rattle.element_status.proofs.fields.cut.Tie as tie
 
-cast-result : tie.Need-cast-result
-cast-result c = search needs
-
-shr-result : tie.Need-shr-result
-shr-result c = search needs
-
 cast-result-2 : tie.Need-cast-result-2
 cast-result-2 c = let s = c .args in let h = and-le-r (s .n / 2 ^ (s .shift % 32)) (s .most) in omega arith
 
@@ -22,4 +16,4 @@ unfolding cutAt
 returns c = refl
 
 pub cut-spec : {M : Type 1} → statement M
-cut-spec = tie.close (tie.spec cast-result shr-result cast-result-2 returns)
+cut-spec = tie.close (tie.spec (λ c. search needs) (λ c. search needs) cast-result-2 returns)

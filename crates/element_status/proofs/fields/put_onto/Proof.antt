@@ -10,15 +10,9 @@ use Rattle.element_status.proofs.fields.put_onto.Tie as tie
 cast-result : tie.Need-cast-result
 cast-result c = let s = c .args in let h = and-le-r (s .x) (s .most) in omega arith
 
-cast-result-2 : tie.Need-cast-result-2
-cast-result-2 c = search needs
-
-shl-result : tie.Need-shl-result
-shl-result c = search needs
-
 returns : tie.Need-returns
 unfolding putOnto
 returns c = refl
 
 pub put-onto-spec : {M : Type 1} → statement M
-put-onto-spec = tie.close (tie.spec cast-result cast-result-2 shl-result returns)
+put-onto-spec = tie.close (tie.spec cast-result (λ c. search needs) (λ c. search needs) returns)

@@ -6,15 +6,6 @@ use borrow.Author.Needs.{needs}
 use Rattle.element_status.proofs.types.current.Statement.{statement}
 use Rattle.element_status.proofs.types.current.Tie as tie
 
-of-current-requires : tie.Need-of-current-requires
-of-current-requires c κs = search needs
-
-of-requires : tie.Need-of-requires
-of-requires c κs = search needs
-
-current-bytes-requires : tie.Need-current-bytes-requires
-current-bytes-requires c κs = search needs
-
 returns : tie.Need-returns
 returns c =
     let s = c .before .of .ensures in
@@ -22,4 +13,7 @@ returns c =
     c .current-bytes .ensures ∙ (λ i. statusWith currentStatus currentFields (s i) (v i) (c .before .before .before .args .reading))
 
 pub current-spec : {M : Type 1} → statement M
-current-spec = tie.close (tie.spec of-current-requires of-requires current-bytes-requires returns)
+current-spec = tie.close
+    (tie.spec
+    (λ c κs. search needs) (λ c κs. search needs) (λ c κs. search needs)
+    returns)

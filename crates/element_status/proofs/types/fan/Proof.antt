@@ -6,15 +6,6 @@ use borrow.Author.Needs.{needs}
 use Rattle.element_status.proofs.types.fan.Statement.{statement}
 use Rattle.element_status.proofs.types.fan.Tie as tie
 
-of-fan-requires : tie.Need-of-fan-requires
-of-fan-requires c κs = search needs
-
-of-requires : tie.Need-of-requires
-of-requires c κs = search needs
-
-fan-bytes-requires : tie.Need-fan-bytes-requires
-fan-bytes-requires c κs = search needs
-
 returns : tie.Need-returns
 returns c =
     let s = c .before .of .ensures in
@@ -22,4 +13,4 @@ returns c =
     c .fan-bytes .ensures ∙ (λ i. statusWith fanStatus fanFields (s i) (v i) (c .before .before .before .args .reading))
 
 pub fan-spec : {M : Type 1} → statement M
-fan-spec = tie.close (tie.spec of-fan-requires of-requires fan-bytes-requires returns)
+fan-spec = tie.close (tie.spec (λ c κs. search needs) (λ c κs. search needs) (λ c κs. search needs) returns)

@@ -4,21 +4,6 @@ use borrow.Author.Needs.{needs}
 use Rattle.element_status.proofs.types.formed_as.Statement.{statement}
 use Rattle.element_status.proofs.types.formed_as.Tie as tie
 
-are-formed-requires : tie.Need-are-formed-requires
-are-formed-requires c κs = search needs
-
-are-had-requires : tie.Need-are-had-requires
-are-had-requires c κs = search needs
-
-are-ordered-requires : tie.Need-are-ordered-requires
-are-ordered-requires c κs = search needs
-
-may-read-requires : tie.Need-may-read-requires
-may-read-requires c κs = search needs
-
-may-have-nominal-requires : tie.Need-may-have-nominal-requires
-may-have-nominal-requires c κs = search needs
-
 returns : tie.Need-returns
 returns c =
     let p = c .before .before .before .before .are-formed .ensures in
@@ -32,9 +17,6 @@ pub formed-as-spec : {M : Type 1} → statement M
 formed-as-spec =
     tie.close
     (tie.spec
-    are-formed-requires
-    are-had-requires
-    are-ordered-requires
-    may-read-requires
-    may-have-nominal-requires
+    (λ c κs. search needs) (λ c κs. search needs) (λ c κs. search needs) (λ c κs. search needs)
+    (λ c κs. search needs)
     returns)

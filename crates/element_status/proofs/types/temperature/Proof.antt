@@ -6,15 +6,6 @@ use borrow.Author.Needs.{needs}
 use Rattle.element_status.proofs.types.temperature.Statement.{statement}
 use Rattle.element_status.proofs.types.temperature.Tie as tie
 
-of-temperature-requires : tie.Need-of-temperature-requires
-of-temperature-requires c κs = search needs
-
-of-requires : tie.Need-of-requires
-of-requires c κs = search needs
-
-temperature-bytes-requires : tie.Need-temperature-bytes-requires
-temperature-bytes-requires c κs = search needs
-
 returns : tie.Need-returns
 returns c =
     let s = c .before .of .ensures in
@@ -23,4 +14,4 @@ returns c =
 
 pub temperature-spec : {M : Type 1} → statement M
 temperature-spec =
-    tie.close (tie.spec of-temperature-requires of-requires temperature-bytes-requires returns)
+    tie.close (tie.spec (λ c κs. search needs) (λ c κs. search needs) (λ c κs. search needs) returns)

@@ -6,18 +6,6 @@ use borrow.Author.Needs.{needs}
 use Rattle.element_status.proofs.types.temperature_bytes.Statement.{statement}
 use Rattle.element_status.proofs.types.temperature_bytes.Tie as tie
 
-first-byte-requires : tie.Need-first-byte-requires
-first-byte-requires c κs = search needs
-
-mul-t7 : tie.Need-mul-t7
-mul-t7 c = search needs
-
-cast-t9 : tie.Need-cast-t9
-cast-t9 c = search needs
-
-nibble-requires : tie.Need-nibble-requires
-nibble-requires c κs = search needs
-
 returns : tie.Need-returns
 returns c =
     let v = c .before .before .before .args .v in
@@ -25,4 +13,7 @@ returns c =
 
 pub temperature-bytes-spec : {M : Type 1} → statement M
 temperature-bytes-spec =
-    tie.close (tie.spec first-byte-requires mul-t7 cast-t9 nibble-requires returns)
+    tie.close
+    (tie.spec
+    (λ c κs. search needs) (λ c. search needs) (λ c. search needs) (λ c κs. search needs)
+    returns)

@@ -6,15 +6,6 @@ use borrow.Author.Needs.{needs}
 use Rattle.element_status.proofs.types.voltage.Statement.{statement}
 use Rattle.element_status.proofs.types.voltage.Tie as tie
 
-of-voltage-requires : tie.Need-of-voltage-requires
-of-voltage-requires c κs = search needs
-
-of-requires : tie.Need-of-requires
-of-requires c κs = search needs
-
-voltage-bytes-requires : tie.Need-voltage-bytes-requires
-voltage-bytes-requires c κs = search needs
-
 returns : tie.Need-returns
 returns c =
     let s = c .before .of .ensures in
@@ -22,4 +13,7 @@ returns c =
     c .voltage-bytes .ensures ∙ (λ i. statusWith voltageStatus voltageFields (s i) (v i) (c .before .before .before .args .reading))
 
 pub voltage-spec : {M : Type 1} → statement M
-voltage-spec = tie.close (tie.spec of-voltage-requires of-requires voltage-bytes-requires returns)
+voltage-spec = tie.close
+    (tie.spec
+    (λ c κs. search needs) (λ c κs. search needs) (λ c κs. search needs)
+    returns)

@@ -10,12 +10,6 @@ use borrow.Author.Needs.{needs}
 use Rattle.element_verdict.proofs.thresholds.are_had.Statement.{statement}
 use Rattle.element_verdict.proofs.thresholds.are_had.Tie as tie
 
-thresholds-requires : tie.Need-thresholds-requires
-thresholds-requires c κs = search needs
-
-are-within-requires : tie.Need-are-within-requires
-are-within-requires c κs = search needs
-
 returns : tie.Need-returns
 returns c =
     let s = c .before .before .args in
@@ -24,4 +18,4 @@ returns c =
     c .are-within .ensures ∙ ap (λ (n : ℕ). within n (big (fourAt e 0))) (c .before .thresholds .ensures) ∙ thresholds-within (s .kind) e h
 
 pub are-had-spec : {M : Type 1} → statement M
-are-had-spec = tie.close (tie.spec thresholds-requires are-within-requires returns)
+are-had-spec = tie.close (tie.spec (λ c κs. search needs) (λ c κs. search needs) returns)

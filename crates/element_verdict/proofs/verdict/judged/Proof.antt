@@ -3,11 +3,8 @@ use borrow.Author.Needs.{needs}
 use Rattle.element_verdict.proofs.verdict.judged.Statement.{statement}
 use Rattle.element_verdict.proofs.verdict.judged.Tie as tie
 
-code-for-requires : tie.Need-code-for-requires
-code-for-requires c κs = search needs
-
 returns : tie.Need-returns
 returns c = rw (c .code-for .ensures)
 
 pub judged-spec : {M : Type 1} → statement M
-judged-spec = tie.close (tie.spec code-for-requires returns)
+judged-spec = tie.close (tie.spec (λ c κs. search needs) returns)

@@ -11,17 +11,8 @@ use borrow.Author.Needs.{needs}
 use Rattle.element_verdict.proofs.verdict.of_fan.Statement.{statement}
 use Rattle.element_verdict.proofs.verdict.of_fan.Tie as tie
 
-array-read-on : tie.Need-array-read-on
-array-read-on c = search needs
-
-code-for-requires : tie.Need-code-for-requires
-code-for-requires c κs = search needs
-
-unlimited-requires : tie.Need-unlimited-requires
-unlimited-requires c κs = search needs
-
 returns : tie.Need-returns
 returns c = let s = c .before .before .args in let h : Fits w8 (getD (s .t1) 3 0) = search needs in c .unlimited .ensures ∙ ap unlimited (c .before .code-for .ensures ∙ ap (λ (b : Bool). codeFor (b && eqb (s .reading) 0) false) (on-is (s .t1) h))
 
 pub of-fan-spec : {M : Type 1} → statement M
-of-fan-spec = tie.close (tie.spec array-read-on code-for-requires unlimited-requires returns)
+of-fan-spec = tie.close (tie.spec (λ c. search needs) (λ c κs. search needs) (λ c κs. search needs) returns)

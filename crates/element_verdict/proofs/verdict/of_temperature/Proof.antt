@@ -4,36 +4,6 @@ use borrow.Author.Needs.{needs}
 use Rattle.element_verdict.proofs.verdict.of_temperature.Statement.{statement}
 use Rattle.element_verdict.proofs.verdict.of_temperature.Tie as tie
 
-unlimited-requires : tie.Need-unlimited-requires
-unlimited-requires c κs = search needs
-
-array-read-above : tie.Need-array-read-above
-array-read-above c = search needs
-
-above-requires : tie.Need-above-requires
-above-requires c κs = search needs
-
-array-read-above-2 : tie.Need-array-read-above-2
-array-read-above-2 c = search needs
-
-above-requires-2 : tie.Need-above-requires-2
-above-requires-2 c κs = search needs
-
-array-read-below : tie.Need-array-read-below
-array-read-below c = search needs
-
-below-requires : tie.Need-below-requires
-below-requires c κs = search needs
-
-array-read-below-2 : tie.Need-array-read-below-2
-array-read-below-2 c = search needs
-
-below-requires-2 : tie.Need-below-requires-2
-below-requires-2 c κs = search needs
-
-judged-requires : tie.Need-judged-requires
-judged-requires c κs = search needs
-
 returns : tie.Need-returns
 returns c = rw (eq-eqb (c .before .before .args .reading) 0 (c .before .if1 .taken)) (c .unlimited .ensures)
 
@@ -44,15 +14,8 @@ pub of-temperature-spec : {M : Type 1} → statement M
 of-temperature-spec =
     tie.close
     (tie.spec
-    unlimited-requires
-    array-read-above
-    above-requires
-    array-read-above-2
-    above-requires-2
-    array-read-below
-    below-requires
-    array-read-below-2
-    below-requires-2
-    judged-requires
+    (λ c κs. search needs) (λ c. search needs) (λ c κs. search needs) (λ c. search needs)
+    (λ c κs. search needs) (λ c. search needs) (λ c κs. search needs) (λ c. search needs)
+    (λ c κs. search needs) (λ c κs. search needs)
     returns
     returns-2)

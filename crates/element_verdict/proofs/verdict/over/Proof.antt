@@ -10,20 +10,8 @@ use Rattle.element_verdict.proofs.verdict.over.Tie as tie
 mul-result : tie.Need-mul-result
 mul-result c = omega (arith, scaled (c .args .nominal) (c .args .limit) (search needs) (search needs))
 
-add-result : tie.Need-add-result
-add-result c = search needs
-
-mul-result-2 : tie.Need-mul-result-2
-mul-result-2 c = search needs
-
 add-result-2 : tie.Need-add-result-2
 add-result-2 c = omega (arith, scaled (c .args .nominal) (c .args .limit) (search needs) (search needs))
-
-lifted-requires : tie.Need-lifted-requires
-lifted-requires c κs = search needs
-
-mul-result-3 : tie.Need-mul-result-3
-mul-result-3 c = search needs
 
 returns : tie.Need-returns
 unfolding over
@@ -32,4 +20,9 @@ returns c = let s = c .before .args in rw (c .lifted .ensures, ← (over-moved (
 pub over-spec : {M : Type 1} → statement M
 over-spec =
     tie.close
-    (tie.spec mul-result add-result mul-result-2 add-result-2 lifted-requires mul-result-3 returns)
+    (tie.spec
+    mul-result
+    (λ c. search needs) (λ c. search needs)
+    add-result-2
+    (λ c κs. search needs) (λ c. search needs)
+    returns)

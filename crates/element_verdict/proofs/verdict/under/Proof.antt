@@ -10,20 +10,8 @@ use Rattle.element_verdict.proofs.verdict.under.Tie as tie
 mul-result : tie.Need-mul-result
 mul-result c = omega (arith, scaled (c .args .nominal) (c .args .limit) (search needs) (search needs))
 
-lifted-requires : tie.Need-lifted-requires
-lifted-requires c κs = search needs
-
-mul-result-2 : tie.Need-mul-result-2
-mul-result-2 c = search needs
-
 add-result : tie.Need-add-result
 add-result c = omega (arith, scaled (c .before .args .nominal) (c .before .args .limit) (search needs) (search needs), c .lifted .ensures)
-
-add-result-2 : tie.Need-add-result-2
-add-result-2 c = search needs
-
-mul-result-3 : tie.Need-mul-result-3
-mul-result-3 c = search needs
 
 returns : tie.Need-returns
 unfolding under
@@ -32,4 +20,9 @@ returns c = let s = c .before .args in rw (c .lifted .ensures, ← (under-moved 
 pub under-spec : {M : Type 1} → statement M
 under-spec =
     tie.close
-    (tie.spec mul-result lifted-requires mul-result-2 add-result add-result-2 mul-result-3 returns)
+    (tie.spec
+    mul-result
+    (λ c κs. search needs) (λ c. search needs)
+    add-result
+    (λ c. search needs) (λ c. search needs)
+    returns)

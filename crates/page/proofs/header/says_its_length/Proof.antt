@@ -10,18 +10,12 @@ use borrow.Author.Needs.{needs}
 use Rattle.page.proofs.header.says_its_length.Statement.{statement}
 use Rattle.page.proofs.header.says_its_length.Tie as tie
 
-big16-at-requires : tie.Need-big16-at-requires
-big16-at-requires c κs = search needs
-
-cast-result : tie.Need-cast-result
-cast-result c = search needs
-
-add-result : tie.Need-add-result
-add-result c = search needs
-
 returns : tie.Need-returns
 unfolding lengthSaid
 returns c = ap (λ n. eqb (length (now (c .before .before .args .page))) (n + 4)) (c .big16-at .ensures)
 
 pub says-its-length-spec : {M : Type 1} → statement M
-says-its-length-spec = tie.close (tie.spec big16-at-requires cast-result add-result returns)
+says-its-length-spec = tie.close
+    (tie.spec
+    (λ c κs. search needs) (λ c. search needs) (λ c. search needs)
+    returns)

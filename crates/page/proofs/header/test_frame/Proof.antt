@@ -10,17 +10,11 @@ use Rattle.page.proofs.header.test_frame.Tie as tie
 returns : tie.Need-returns
 returns c = let s = c .before .before .args in too-short (now (s .page)) (s .code) (lt-leb 4 _ (c .if1 .taken))
 
-byte-at-requires : tie.Need-byte-at-requires
-byte-at-requires c κs = search needs
-
 returns-2 : tie.Need-returns-2
 returns-2 c =
     let s = c .before .before .before .before .args in
     let e1 = le-leb 4 _ (c .before .before .if1 .left) in
     other-code (now (s .page)) (s .code) e1 (ne-eqb _ (s .code) (λ e. c .if2 .taken (c .before .byte-at .ensures ∙ e)))
-
-says-its-length-requires : tie.Need-says-its-length-requires
-says-its-length-requires c κs = search needs
 
 returns-3 : tie.Need-returns-3
 returns-3 c =
@@ -38,5 +32,4 @@ returns-4 c =
 
 pub test-frame-spec : {M : Type 1} → statement M
 test-frame-spec =
-    tie.close
-    (tie.spec returns byte-at-requires returns-2 says-its-length-requires returns-3 returns-4)
+    tie.close (tie.spec returns (λ c κs. search needs) returns-2 (λ c κs. search needs) returns-3 returns-4)

@@ -6,12 +6,6 @@ use borrow.Author.Needs.{needs}
 use Rattle.page.proofs.header.test_generation.Statement.{statement}
 use Rattle.page.proofs.header.test_generation.Tie as tie
 
-big32-at-requires : tie.Need-big32-at-requires
-big32-at-requires c κs = search needs
-
-big32-at-requires-2 : tie.Need-big32-at-requires-2
-big32-at-requires-2 c κs = search needs
-
 returns : tie.Need-returns
 returns c =
     let s = c .before .before .before .before .before .args in
@@ -25,4 +19,4 @@ returns-2 c =
     (sym (c .before .before .big32-at .ensures) ∙ c .if1 .left ∙ c .before .big32-at2 .ensures)
 
 pub test-generation-spec : {M : Type 1} → statement M
-test-generation-spec = tie.close (tie.spec big32-at-requires big32-at-requires-2 returns returns-2)
+test-generation-spec = tie.close (tie.spec (λ c κs. search needs) (λ c κs. search needs) returns returns-2)

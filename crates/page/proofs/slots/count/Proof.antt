@@ -6,12 +6,6 @@ use borrow.Author.Needs.{needs}
 use Rattle.page.proofs.slots.count.Statement.{statement}
 use Rattle.page.proofs.slots.count.Tie as tie
 
-count-requires : tie.Need-count-requires
-count-requires c κs = search needs
-
-all-elements-requires : tie.Need-all-elements-requires
-all-elements-requires c κs = search needs
-
 add-result : tie.Need-add-result
 add-result c = let s = now (c .before .before .before .args .configuration) in omega (arith, slots-small s (c .before .before .shared-slice-known .given) (c .before .count .ensures) (c .all-elements .ensures))
 
@@ -19,4 +13,4 @@ returns : tie.Need-returns
 returns c = slots-are (now (c .before .before .before .args .configuration)) (c .before .count .ensures) (c .all-elements .ensures)
 
 pub count-spec : {M : Type 1} → statement M
-count-spec = tie.close (tie.spec count-requires all-elements-requires add-result returns)
+count-spec = tie.close (tie.spec (λ c κs. search needs) (λ c κs. search needs) add-result returns)

@@ -13,17 +13,11 @@ returns c = let s = c .before .before .before in slot-stays (now (s .args .confi
 code-of-requires : tie.Need-code-of-requires
 code-of-requires c κs = let s = c .before .before .before in next-there (now (s .args .configuration)) (s .pre .0 .0) (s .args .i) (s .pre .1 .0) (s .pre .1 .1) (c .if1 .left) (s .pre .0 .1)
 
-of-requires : tie.Need-of-requires
-of-requires c κs = search needs
-
 add-t9 : tie.Need-add-t9
 add-t9 c = let s = c .before .before .before .before .before in omega (arith, slot-steps (now (s .args .configuration)) (s .pre .0 .0) (s .args .i) (s .pre .1 .0) (s .pre .1 .1) (c .before .before .if1 .left) .0)
 
 elements-of-requires : tie.Need-elements-of-requires
 elements-of-requires c κs = let s = c .before .before .before .before .before in next-there (now (s .args .configuration)) (s .pre .0 .0) (s .args .i) (s .pre .1 .0) (s .pre .1 .1) (c .before .before .if1 .left) (s .pre .0 .1)
-
-cast-t10 : tie.Need-cast-t10
-cast-t10 c = search needs
 
 add-t11 : tie.Need-add-t11
 add-t11 c = let s = c .before .before .before .before .before .before in omega (arith, s .pre .1 .0, slots-bound (now (s .args .configuration)) (s .pre .0 .0))
@@ -40,10 +34,10 @@ run-to-spec =
     (tie.spec
     returns
     code-of-requires
-    of-requires
+    (λ c κs. search needs)
     add-t9
     elements-of-requires
-    cast-t10
+    (λ c. search needs)
     add-t11
     add-t12
     returns-2)

@@ -5,9 +5,6 @@ use Rattle.page.proofs.SlotWalk.{types-fit, element-fits, overall-in, e
 use Rattle.page.proofs.slots.slot_in.Statement.{statement}
 use Rattle.page.proofs.slots.slot_in.Tie as tie
 
-add-after : tie.Need-add-after
-add-after c = search needs
-
 sub-after : tie.Need-sub-after
 sub-after c = types-fit (c .before .args .run) (c .before .args .i) (c .before .pre .1)
 
@@ -24,4 +21,4 @@ returns-2 : tie.Need-returns-2
 returns-2 c = element-in _ _ (c .if1 .left)
 
 pub slot-in-spec : {M : Type 1} → statement M
-slot-in-spec = tie.close (tie.spec add-after sub-after sub-t8 sub-t9 returns returns-2)
+slot-in-spec = tie.close (tie.spec (λ c. search needs) sub-after sub-t8 sub-t9 returns returns-2)

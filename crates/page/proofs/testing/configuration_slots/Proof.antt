@@ -6,15 +6,6 @@ use borrow.Author.Needs.{needs}
 use Rattle.page.proofs.testing.configuration_slots.Statement.{statement}
 use Rattle.page.proofs.testing.configuration_slots.Tie as tie
 
-open-configuration-requires : tie.Need-open-configuration-requires
-open-configuration-requires c κs = search needs
-
-enum-known-opened : tie.Need-enum-known-opened
-enum-known-opened c = search needs
-
-enum-told : tie.Need-enum-told
-enum-told c = search needs
-
 returns : tie.Need-returns
 returns c = no-configuration (now (c .before .before .before .before .args .configuration)) (c .before .before .open-configuration .ensures) (c .enum-told .given .1)
 
@@ -31,4 +22,8 @@ returns-2 c =
 pub configuration-slots-spec : {M : Type 1} → statement M
 configuration-slots-spec =
     tie.close
-    (tie.spec open-configuration-requires enum-known-opened enum-told returns add-t5 returns-2)
+    (tie.spec
+    (λ c κs. search needs) (λ c. search needs) (λ c. search needs)
+    returns
+    add-t5
+    returns-2)

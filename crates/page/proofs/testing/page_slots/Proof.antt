@@ -8,15 +8,6 @@ use borrow.Author.Needs.{needs}
 use Rattle.page.proofs.testing.page_slots.Statement.{statement}
 use Rattle.page.proofs.testing.page_slots.Tie as tie
 
-shelf-slots-requires : tie.Need-shelf-slots-requires
-shelf-slots-requires c κs = search needs
-
-enum-known-opened : tie.Need-enum-known-opened
-enum-known-opened c = search needs
-
-enum-told : tie.Need-enum-told
-enum-told c = search needs
-
 returns : tie.Need-returns
 unfolding pageTested
 returns c =
@@ -26,9 +17,6 @@ returns c =
 
 test-requires : tie.Need-test-requires
 test-requires c κs = shelf-counted (now (c .before .before .before .before .before .before .args .shelf)) (c .before .opened .given .1) (c .before .before .before .shelf-slots .ensures) .1 .1
-
-of-requires : tie.Need-of-requires
-of-requires c κs = search needs
 
 returns-2 : tie.Need-returns-2
 unfolding pageTested
@@ -41,10 +29,8 @@ pub page-slots-spec : {M : Type 1} → statement M
 page-slots-spec =
     tie.close
     (tie.spec
-    shelf-slots-requires
-    enum-known-opened
-    enum-told
+    (λ c κs. search needs) (λ c. search needs) (λ c. search needs)
     returns
     test-requires
-    of-requires
+    (λ c κs. search needs)
     returns-2)

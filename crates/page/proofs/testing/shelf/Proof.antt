@@ -7,15 +7,6 @@ use borrow.Author.Needs.{needs}
 use Rattle.page.proofs.testing.shelf.Statement.{statement}
 use Rattle.page.proofs.testing.shelf.Tie as tie
 
-open-shelf-requires : tie.Need-open-shelf-requires
-open-shelf-requires c κs = search needs
-
-enum-told : tie.Need-enum-told
-enum-told c = search needs
-
-enum-told-2 : tie.Need-enum-told-2
-enum-told-2 c = search needs
-
 returns : tie.Need-returns
 returns c = let s = now (c .before .before .before .before .args .shelf) in sym (pick-no _ _ _ (not-formed s (sym (c .before .before .open-shelf .ensures) ∙ c .enum-told2 .given .1)))
 
@@ -23,4 +14,8 @@ returns-2 : tie.Need-returns-2
 returns-2 c = let s = now (c .before .before .before .before .args .shelf) in sym (pick-yes _ _ _ (formed-sizes s (sym (c .before .before .open-shelf .ensures) ∙ c .enum-told .given .1) .0))
 
 pub shelf-spec : {M : Type 1} → statement M
-shelf-spec = tie.close (tie.spec open-shelf-requires enum-told enum-told-2 returns returns-2)
+shelf-spec = tie.close
+    (tie.spec
+    (λ c κs. search needs) (λ c. search needs) (λ c. search needs)
+    returns
+    returns-2)

@@ -6,15 +6,6 @@ use borrow.Author.Needs.{needs}
 use Rattle.page.proofs.testing.shelf_slots.Statement.{statement}
 use Rattle.page.proofs.testing.shelf_slots.Tie as tie
 
-open-shelf-requires : tie.Need-open-shelf-requires
-open-shelf-requires c κs = search needs
-
-enum-known-opened : tie.Need-enum-known-opened
-enum-known-opened c = search needs
-
-enum-told : tie.Need-enum-told
-enum-told c = search needs
-
 returns : tie.Need-returns
 returns c = no-shelf (now (c .before .before .before .before .args .shelf)) (c .before .before .open-shelf .ensures) (c .enum-told .given .1)
 
@@ -28,4 +19,9 @@ returns-2 c = shelf-slots (now (c .before .before .before .before .before .befor
 
 pub shelf-slots-spec : {M : Type 1} → statement M
 shelf-slots-spec =
-    tie.close (tie.spec open-shelf-requires enum-known-opened enum-told returns add-t5 returns-2)
+    tie.close
+    (tie.spec
+    (λ c κs. search needs) (λ c. search needs) (λ c. search needs)
+    returns
+    add-t5
+    returns-2)

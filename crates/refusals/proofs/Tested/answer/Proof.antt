@@ -3,17 +3,8 @@ use borrow.Author.Needs.{needs}
 use Rattle.refusals.proofs.Tested.answer.Statement.{statement}
 use Rattle.refusals.proofs.Tested.answer.Tie as tie
 
-enum-known-self : tie.Need-enum-known-self
-enum-known-self c = search needs
-
-enum-told : tie.Need-enum-told
-enum-told c = search needs
-
-returns : tie.Need-returns
-returns c = search needs
-
 returns-2 : tie.Need-returns-2
 returns-2 c = rw (c .before .self .given .1)
 
 pub answer-spec : {M : Type 1} → statement M
-answer-spec = tie.close (tie.spec enum-known-self enum-told returns returns-2)
+answer-spec = tie.close (tie.spec (λ c. search needs) (λ c. search needs) (λ c. search needs) returns-2)

@@ -3,12 +3,6 @@ use borrow.Author.Needs.{needs}
 use Rattle.refusals.proofs.Tested.of.Statement.{statement}
 use Rattle.refusals.proofs.Tested.of.Tie as tie
 
-enum-known-answer : tie.Need-enum-known-answer
-enum-known-answer c = search needs
-
-enum-told : tie.Need-enum-told
-enum-told c = search needs
-
 returns : tie.Need-returns
 returns c = rw (c .enum-told .given .1)
 
@@ -16,4 +10,4 @@ returns-2 : tie.Need-returns-2
 returns-2 c = rw (c .before .answer .given .1)
 
 pub of-spec : {M : Type 1} → statement M
-of-spec = tie.close (tie.spec enum-known-answer enum-told returns returns-2)
+of-spec = tie.close (tie.spec (λ c. search needs) (λ c. search needs) returns returns-2)

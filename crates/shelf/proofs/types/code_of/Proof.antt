@@ -4,14 +4,8 @@ use borrow.Author.Needs.{needs}
 use Rattle.shelf.proofs.types.code_of.Statement.{statement}
 use Rattle.shelf.proofs.types.code_of.Tie as tie
 
-type-place-requires : tie.Need-type-place-requires
-type-place-requires c κs = search needs
-
-byte-at-requires : tie.Need-byte-at-requires
-byte-at-requires c κs = search needs
-
 returns : tie.Need-returns
 returns c = c .byte-at .ensures ∙ rw (c .before .type-place .ensures)
 
 pub code-of-spec : {M : Type 1} → statement M
-code-of-spec = tie.close (tie.spec type-place-requires byte-at-requires returns)
+code-of-spec = tie.close (tie.spec (λ c κs. search needs) (λ c κs. search needs) returns)

@@ -21,8 +21,5 @@ run-from-requires c κs =
     let b = run-behind (now (a .args .shelf)) (a .args .j) (a .pre .1) in
     (a .pre .0, (b .0, (b .1, b .2)))
 
-returns-2 : tie.Need-returns-2
-returns-2 c = search needs
-
 pub run-to-spec : {M : Type 1} → statement M
-run-to-spec = tie.close (tie.spec returns cast-run-from run-from-requires returns-2)
+run-to-spec = tie.close (tie.spec returns cast-run-from run-from-requires (λ c. search needs))

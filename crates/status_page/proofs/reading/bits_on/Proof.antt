@@ -5,12 +5,9 @@ use borrow.Author.Needs.{needs}
 use Rattle.status_page.proofs.reading.bits_on.Statement.{statement}
 use Rattle.status_page.proofs.reading.bits_on.Tie as tie
 
-byte-at-requires : tie.Need-byte-at-requires
-byte-at-requires c κs = search needs
-
 returns : tie.Need-returns
 unfolding bitsOn
 returns c = rw (c .byte-at .ensures, and1, and1)
 
 pub bits-on-spec : {M : Type 1} → statement M
-bits-on-spec = tie.close (tie.spec byte-at-requires returns)
+bits-on-spec = tie.close (tie.spec (λ c κs. search needs) returns)

@@ -14,9 +14,6 @@ bits-on-requires c κs =
     let s = c .before .before .before .before .args in
     omega (arith, page-there (now (s .configuration)) (now (s .page)) (c .before .before .before .before .pre) (c .before .count .ensures))
 
-put-head-requires : tie.Need-put-head-requires
-put-head-requires c κs = search needs
-
 put-entries-requires : tie.Need-put-entries-requires
 put-entries-requires c κs =
     let s = c .before .before .before .before .before .before .before .args in
@@ -38,5 +35,4 @@ returns c =
 
 pub hand-over-spec : {M : Type 1} → statement M
 hand-over-spec =
-    tie.close
-    (tie.spec count-requires bits-on-requires put-head-requires put-entries-requires returns)
+    tie.close (tie.spec count-requires bits-on-requires (λ c κs. search needs) put-entries-requires returns)

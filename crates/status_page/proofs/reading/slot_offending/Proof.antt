@@ -5,18 +5,6 @@ use borrow.Author.Needs.{needs}
 use Rattle.status_page.proofs.reading.slot_offending.Statement.{statement}
 use Rattle.status_page.proofs.reading.slot_offending.Tie as tie
 
-slot-place-requires : tie.Need-slot-place-requires
-slot-place-requires c κs = search needs
-
-four-at-requires : tie.Need-four-at-requires
-four-at-requires c κs = search needs
-
-overall-offending-requires : tie.Need-overall-offending-requires
-overall-offending-requires c κs = search needs
-
-offending-requires : tie.Need-offending-requires
-offending-requires c κs = search needs
-
 returns : tie.Need-returns
 returns c = let s = c .before .before .before .before .before .args in offends-overall (now (s .page)) (s .i) (s .at) (c .before .before .before .slot-place .ensures) (c .before .before .four-at .ensures) (c .before .if1 .taken) (c .overall-offending .ensures)
 
@@ -27,9 +15,6 @@ pub slot-offending-spec : {M : Type 1} → statement M
 slot-offending-spec =
     tie.close
     (tie.spec
-    slot-place-requires
-    four-at-requires
-    overall-offending-requires
-    offending-requires
+    (λ c κs. search needs) (λ c κs. search needs) (λ c κs. search needs) (λ c κs. search needs)
     returns
     returns-2)

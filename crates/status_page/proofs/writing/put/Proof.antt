@@ -7,24 +7,12 @@ use borrow.Author.Needs.{needs}
 use Rattle.status_page.proofs.writing.put.Statement.{statement}
 use Rattle.status_page.proofs.writing.put.Tie as tie
 
-of-requires : tie.Need-of-requires
-of-requires c κs = search needs
-
-byte-requires : tie.Need-byte-requires
-byte-requires c κs = search needs
-
 put-requires : tie.Need-put-requires
 put-requires c κs =
     let s = c .before .before .before .before .before .args in (
       front-there (now (s .shelf)) (now (s .out)) (c .before .before .before .before .before .pre .0) .1,
       omega (arith, c .before .before .before .before .before .pre .0 .1),
     )
-
-put-slots-requires : tie.Need-put-slots-requires
-put-slots-requires c κs = search needs
-
-same-length : tie.Need-same-length
-same-length c = search needs
 
 returns : tie.Need-returns
 returns c =
@@ -39,4 +27,8 @@ returns c =
 pub put-spec : {M : Type 1} → statement M
 put-spec =
     tie.close
-    (tie.spec of-requires byte-requires put-requires put-slots-requires same-length returns)
+    (tie.spec
+    (λ c κs. search needs) (λ c κs. search needs)
+    put-requires
+    (λ c κs. search needs) (λ c. search needs)
+    returns)

@@ -6,12 +6,6 @@ use borrow.Author.Needs.{needs}
 use Rattle.status_page.proofs.writing.slot_bytes.Statement.{statement}
 use Rattle.status_page.proofs.writing.slot_bytes.Tie as tie
 
-array-read-t9 : tie.Need-array-read-t9
-array-read-t9 c = search needs
-
-bytes-requires : tie.Need-bytes-requires
-bytes-requires c κs = search needs
-
 returns : tie.Need-returns
 unfolding slotBytes
 returns c = sym (pick-yes _ _ _ (c .if1 .taken))
@@ -21,4 +15,4 @@ unfolding slotBytes
 returns-2 c = c .bytes .ensures ∙ sym (pick-no _ _ _ (c .before .if1 .left))
 
 pub slot-bytes-spec : {M : Type 1} → statement M
-slot-bytes-spec = tie.close (tie.spec array-read-t9 bytes-requires returns returns-2)
+slot-bytes-spec = tie.close (tie.spec (λ c. search needs) (λ c κs. search needs) returns returns-2)

@@ -6,9 +6,6 @@ use borrow.Author.Needs.{needs}
 use Rattle.status_page.proofs.writing.slot_row.Statement.{statement}
 use Rattle.status_page.proofs.writing.slot_row.Tie as tie
 
-worst-requires : tie.Need-worst-requires
-worst-requires c κs = search needs
-
 status-at-requires : tie.Need-status-at-requires
 status-at-requires c κs = let q = c .before .before in omega (arith, q .pre .0, q .pre .1 (c .if1 .left))
 
@@ -19,4 +16,4 @@ returns-2 : tie.Need-returns-2
 returns-2 c = let s = c .before .before .before .args in row-element (now (s .shelf)) (s .at) (c .before .if1 .left) (c .status-at .ensures)
 
 pub slot-row-spec : {M : Type 1} → statement M
-slot-row-spec = tie.close (tie.spec worst-requires status-at-requires returns returns-2)
+slot-row-spec = tie.close (tie.spec (λ c κs. search needs) status-at-requires returns returns-2)

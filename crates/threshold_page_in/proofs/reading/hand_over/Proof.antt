@@ -9,21 +9,6 @@ use Rattle.threshold_page_in.proofs.reading.hand_over.Tie as tie
 count-requires : tie.Need-count-requires
 count-requires c κs = let s = c .before .before .args in read-front (now (s .configuration)) (now (s .page)) (c .before .before .pre) .1
 
-put-head-requires : tie.Need-put-head-requires
-put-head-requires c κs = search needs
-
-cast-copy : tie.Need-cast-copy
-cast-copy c = search needs
-
-cast-copy-2 : tie.Need-cast-copy-2
-cast-copy-2 c = search needs
-
-cast-copy-3 : tie.Need-cast-copy-3
-cast-copy-3 c = search needs
-
-mul-copy : tie.Need-mul-copy
-mul-copy c = search needs
-
 copy-requires : tie.Need-copy-requires
 copy-requires c κs =
     let s = c .before .before .before .before .before .before .args in
@@ -45,10 +30,7 @@ hand-over-spec =
     tie.close
     (tie.spec
     count-requires
-    put-head-requires
-    cast-copy
-    cast-copy-2
-    cast-copy-3
-    mul-copy
+    (λ c κs. search needs) (λ c. search needs) (λ c. search needs) (λ c. search needs)
+    (λ c. search needs)
     copy-requires
     returns)

@@ -8,18 +8,6 @@ use borrow.Author.Needs.{needs}
 use Rattle.threshold_page_in.proofs.rewriting.put.Statement.{statement}
 use Rattle.threshold_page_in.proofs.rewriting.put.Tie as tie
 
-put-requires : tie.Need-put-requires
-put-requires c κs = search needs
-
-cast-copy : tie.Need-cast-copy
-cast-copy c = search needs
-
-cast-copy-2 : tie.Need-cast-copy-2
-cast-copy-2 c = search needs
-
-mul-copy : tie.Need-mul-copy
-mul-copy c = search needs
-
 copy-requires : tie.Need-copy-requires
 copy-requires c κs =
     let s = c .before .before .before .before .before .before .before .before .args in
@@ -27,9 +15,6 @@ copy-requires c κs =
     let b = slots-bound (now (s .configuration)) (p .0 .0) in
     let l = head-length (now (s .configuration)) (now (s .out)) 0x05 0 (s .n) (c .before .before .before .before .put .ensures) in
     (omega (arith, p .1 .0, b), omega (arith, p .1 .1, l))
-
-same-length : tie.Need-same-length
-same-length c = search needs
 
 returns : tie.Need-returns
 returns c =
@@ -41,4 +26,8 @@ returns c =
 pub put-spec : {M : Type 1} → statement M
 put-spec =
     tie.close
-    (tie.spec put-requires cast-copy cast-copy-2 mul-copy copy-requires same-length returns)
+    (tie.spec
+    (λ c κs. search needs) (λ c. search needs) (λ c. search needs) (λ c. search needs)
+    copy-requires
+    (λ c. search needs)
+    returns)

@@ -7,9 +7,6 @@ use borrow.Author.Needs.{needs}
 use Rattle.threshold_page_in.proofs.rewriting.test_entries.Statement.{statement}
 use Rattle.threshold_page_in.proofs.rewriting.test_entries.Tie as tie
 
-big16-at-requires : tie.Need-big16-at-requires
-big16-at-requires c κs = search needs
-
 returns : tie.Need-returns
 returns c = let s = c .before .before .before .before .args in other-entries (now (s .configuration)) (now (s .fields)) (s .n) (c .before .big16-at .ensures) (c .if1 .taken)
 
@@ -26,4 +23,4 @@ returns-2 c =
     (c .test .ensures)
 
 pub test-entries-spec : {M : Type 1} → statement M
-test-entries-spec = tie.close (tie.spec big16-at-requires returns test-requires returns-2)
+test-entries-spec = tie.close (tie.spec (λ c κs. search needs) returns test-requires returns-2)

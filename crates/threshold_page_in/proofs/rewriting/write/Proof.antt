@@ -8,18 +8,6 @@ use borrow.Author.Needs.{needs}
 use Rattle.threshold_page_in.proofs.rewriting.write.Statement.{statement}
 use Rattle.threshold_page_in.proofs.rewriting.write.Tie as tie
 
-test-requires : tie.Need-test-requires
-test-requires c κs = search needs
-
-enum-told : tie.Need-enum-told
-enum-told c = search needs
-
-enum-told-2 : tie.Need-enum-told-2
-enum-told-2 c = search needs
-
-refused-requires : tie.Need-refused-requires
-refused-requires c κs = search needs
-
 returns : tie.Need-returns
 returns c =
     let a = c .before .before .before .before .before .before .args in
@@ -30,18 +18,6 @@ returns c =
 
 count-requires : tie.Need-count-requires
 count-requires c κs = let a = c .before .before .before .before .before .args in record-front (now (a .configuration)) (now (a .fields)) (c .before .before .test .ensures) (c .enum-told .given .1) .1
-
-slot-place-requires : tie.Need-slot-place-requires
-slot-place-requires c κs = search needs
-
-fit-requires : tie.Need-fit-requires
-fit-requires c κs = search needs
-
-enum-told-3 : tie.Need-enum-told-3
-enum-told-3 c = search needs
-
-enum-told-4 : tie.Need-enum-told-4
-enum-told-4 c = search needs
 
 returns-2 : tie.Need-returns-2
 returns-2 c =
@@ -67,9 +43,6 @@ put-requires c κs =
       (c .before .before .before .before .before .count .ensures, omega (arith, m, c .before .before .before .before .slot-place .ensures)),
     )
 
-same-length : tie.Need-same-length
-same-length c = search needs
-
 returns-3 : tie.Need-returns-3
 returns-3 c =
     let a = c .before .before .before .before .before .before .before .before .before .before .before .before .before .before .args in
@@ -88,17 +61,11 @@ pub write-spec : {M : Type 1} → statement M
 write-spec =
     tie.close
     (tie.spec
-    test-requires
-    enum-told
-    enum-told-2
-    refused-requires
+    (λ c κs. search needs) (λ c. search needs) (λ c. search needs) (λ c κs. search needs)
     returns
     count-requires
-    slot-place-requires
-    fit-requires
-    enum-told-3
-    enum-told-4
+    (λ c κs. search needs) (λ c κs. search needs) (λ c. search needs) (λ c. search needs)
     returns-2
     put-requires
-    same-length
+    (λ c. search needs)
     returns-3)

@@ -10,12 +10,6 @@ use Rattle.threshold_page_in.proofs.writing.put.Tie as tie
 put-requires : tie.Need-put-requires
 put-requires c κs = let s = c .before .before .before .args in (front-there (now (s .shelf)) (now (s .out)) (c .before .before .before .pre .0) .1, omega (arith, c .before .before .before .pre .0 .1))
 
-put-slots-requires : tie.Need-put-slots-requires
-put-slots-requires c κs = search needs
-
-same-length : tie.Need-same-length
-same-length c = search needs
-
 returns : tie.Need-returns
 returns c =
     let s = c .before .before .before .before .before .before .before .before .before .before .args in
@@ -25,4 +19,4 @@ returns c =
     (c .before .before .before .before .before .before .put .ensures) (c .before .before .put-slots .ensures)
 
 pub put-spec : {M : Type 1} → statement M
-put-spec = tie.close (tie.spec put-requires put-slots-requires same-length returns)
+put-spec = tie.close (tie.spec put-requires (λ c κs. search needs) (λ c. search needs) returns)

@@ -4,11 +4,8 @@ use borrow.Author.Needs.{needs}
 use Rattle.element.proofs.control.Control.is_selected.Statement.{statement}
 use Rattle.element.proofs.control.Control.is_selected.Tie as tie
 
-array-read-result : tie.Need-array-read-result
-array-read-result c = search needs
-
 returns : tie.Need-returns
 returns c = rw and1
 
 pub is-selected-spec : {M : Type 1} → statement M
-is-selected-spec = tie.close (tie.spec array-read-result returns)
+is-selected-spec = tie.close (tie.spec (λ c. search needs) returns)

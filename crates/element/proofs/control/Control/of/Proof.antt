@@ -7,12 +7,6 @@ use borrow.Author.Needs.{needs}
 use Rattle.element.proofs.control.Control.of.Statement.{statement}
 use Rattle.element.proofs.control.Control.of.Tie as tie
 
-is-selected-requires : tie.Need-is-selected-requires
-is-selected-requires c κs = search needs
-
-of-requires : tie.Need-of-requires
-of-requires c κs = search needs
-
 returns : tie.Need-returns
 unfolding controlOf
 returns c = let s = c .before .before .before .args in ap requesting (c .of .ensures) ∙ sym (pick-yes (selected (s .e)) (requesting (settingsOf (s .kind) (s .e))) unselected (sym (c .before .before .is-selected .ensures) ∙ c .before .if1 .taken))
@@ -22,4 +16,4 @@ unfolding controlOf
 returns-2 c = let s = c .before .before .args in sym (pick-no (selected (s .e)) (requesting (settingsOf (s .kind) (s .e))) unselected (sym (c .before .is-selected .ensures) ∙ c .if1 .left))
 
 pub of-spec : {M : Type 1} → statement M
-of-spec = tie.close (tie.spec is-selected-requires of-requires returns returns-2)
+of-spec = tie.close (tie.spec (λ c κs. search needs) (λ c κs. search needs) returns returns-2)

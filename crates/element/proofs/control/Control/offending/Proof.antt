@@ -6,12 +6,6 @@ use borrow.Author.Needs.{needs}
 use Rattle.element.proofs.control.Control.offending.Statement.{statement}
 use Rattle.element.proofs.control.Control.offending.Tie as tie
 
-is-selected-requires : tie.Need-is-selected-requires
-is-selected-requires c κs = search needs
-
-reserved-requires : tie.Need-reserved-requires
-reserved-requires c κs = search needs
-
 returns : tie.Need-returns
 unfolding offending
 returns c = c .reserved .ensures ∙ sym (pick-yes _ _ _ (sym (c .before .before .is-selected .ensures) ∙ c .before .if1 .taken))
@@ -21,4 +15,4 @@ unfolding offending
 returns-2 c = sym (pick-no _ _ _ (sym (c .before .is-selected .ensures) ∙ c .if1 .left))
 
 pub offending-spec : {M : Type 1} → statement M
-offending-spec = tie.close (tie.spec is-selected-requires reserved-requires returns returns-2)
+offending-spec = tie.close (tie.spec (λ c κs. search needs) (λ c κs. search needs) returns returns-2)

@@ -4,18 +4,6 @@ use borrow.Author.Needs.{needs}
 use Rattle.element.proofs.layout.Layout.of.Statement.{statement}
 use Rattle.element.proofs.layout.Layout.of.Tie as tie
 
-flags1-requires : tie.Need-flags1-requires
-flags1-requires c κs = search needs
-
-flags2-requires : tie.Need-flags2-requires
-flags2-requires c κs = search needs
-
-flags3-requires : tie.Need-flags3-requires
-flags3-requires c κs = search needs
-
-speed-requires : tie.Need-speed-requires
-speed-requires c κs = search needs
-
 returns : tie.Need-returns
 unfolding layoutOf
 returns c =
@@ -27,4 +15,7 @@ returns c =
 
 pub of-spec : {M : Type 1} → statement M
 of-spec =
-    tie.close (tie.spec flags1-requires flags2-requires flags3-requires speed-requires returns)
+    tie.close
+    (tie.spec
+    (λ c κs. search needs) (λ c κs. search needs) (λ c κs. search needs) (λ c κs. search needs)
+    returns)

@@ -4,15 +4,9 @@ use borrow.Author.Needs.{needs}
 use Rattle.element.proofs.settings.Settings.bytes.Statement.{statement}
 use Rattle.element.proofs.settings.Settings.bytes.Tie as tie
 
-of-requires : tie.Need-of-requires
-of-requires c κs = search needs
-
-stored-requires : tie.Need-stored-requires
-stored-requires c κs = search needs
-
 returns : tie.Need-returns
 unfolding settingsBytes
 returns c = rw (← (c .before .of .ensures)) (c .stored .ensures)
 
 pub bytes-spec : {M : Type 1} → statement M
-bytes-spec = tie.close (tie.spec of-requires stored-requires returns)
+bytes-spec = tie.close (tie.spec (λ c κs. search needs) (λ c κs. search needs) returns)

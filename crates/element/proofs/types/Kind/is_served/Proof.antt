@@ -4,15 +4,9 @@ use borrow.Author.Needs.{needs}
 use Rattle.element.proofs.types.Kind.is_served.Statement.{statement}
 use Rattle.element.proofs.types.Kind.is_served.Tie as tie
 
-of-requires : tie.Need-of-requires
-of-requires c κs = search needs
-
-code-requires : tie.Need-code-requires
-code-requires c κs = search needs
-
 returns : tie.Need-returns
 unfolding served
 returns c = rw (c .code .ensures, c .before .of .ensures)
 
 pub is-served-spec : {M : Type 1} → statement M
-is-served-spec = tie.close (tie.spec of-requires code-requires returns)
+is-served-spec = tie.close (tie.spec (λ c κs. search needs) (λ c κs. search needs) returns)

@@ -4,15 +4,9 @@ use borrow.Author.Needs.{needs}
 use Rattle.element.proofs.types.Kind.may_have_nominal.Statement.{statement}
 use Rattle.element.proofs.types.Kind.may_have_nominal.Tie as tie
 
-least-nominal-requires : tie.Need-least-nominal-requires
-least-nominal-requires c κs = search needs
-
-most-nominal-requires : tie.Need-most-nominal-requires
-most-nominal-requires c κs = search needs
-
 returns : tie.Need-returns
 unfolding nominalAllowed
 returns c = rw (c .before .least-nominal .ensures, c .most-nominal .ensures)
 
 pub may-have-nominal-spec : {M : Type 1} → statement M
-may-have-nominal-spec = tie.close (tie.spec least-nominal-requires most-nominal-requires returns)
+may-have-nominal-spec = tie.close (tie.spec (λ c κs. search needs) (λ c κs. search needs) returns)

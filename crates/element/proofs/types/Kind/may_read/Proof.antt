@@ -4,12 +4,9 @@ use borrow.Author.Needs.{needs}
 use Rattle.element.proofs.types.Kind.may_read.Statement.{statement}
 use Rattle.element.proofs.types.Kind.may_read.Tie as tie
 
-most-reading-requires : tie.Need-most-reading-requires
-most-reading-requires c κs = search needs
-
 returns : tie.Need-returns
 unfolding readingAllowed
 returns c = rw (c .most-reading .ensures)
 
 pub may-read-spec : {M : Type 1} → statement M
-may-read-spec = tie.close (tie.spec most-reading-requires returns)
+may-read-spec = tie.close (tie.spec (λ c κs. search needs) returns)

@@ -17,9 +17,9 @@ use Rattle.build_order.proofs.Dictionary.{by-number}
 use Rattle.build_order.proofs.ByCount.{after-refl, after-trans, after-append, after-rows, sum-same}
 use Rattle.build_order.proofs.BestRow.{TriedFor, AsGood, Facts, best-first, tried-again}
 use Rattle.element.specs.declared.types.Kind.{Kind}
-use Rattle.element.specs.declared.control.Control.{Control}
+use Rattle.element_control.specs.declared.Control.{Control}
 use Rattle.element.specs.Settings.{settingsOf}
-use Rattle.element.specs.Control.{selected, controlOf, chosen, settled}
+use Rattle.element_control.specs.Control.{selected, controlOf, chosen, settled}
 use Rattle.build_element.specs.Wishes.{silent, requestBytes, requestFor, brings}
 use Rattle.build_element.specs.Parts.{selects, under, part, tried, tries, overallSearch}
 use Rattle.build_element.proofs.RequestSays.{request-selected, request-fine, request-length, request-small, silent-fine}

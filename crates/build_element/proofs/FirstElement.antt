@@ -16,14 +16,15 @@ use Rattle.bits.proofs.Rows.{as-four}
 use Rattle.build_order.specs.Order.{InOrder, NotAfter}
 use Rattle.element.specs.declared.types.Kind.{Kind}
 use Rattle.element.specs.declared.settings.Settings.{Settings}
-use Rattle.element.specs.declared.control.Control.{Control}
+use Rattle.element_control.specs.declared.Control.{Control}
 use Rattle.element.specs.Layouts.{said}
 use Rattle.element.specs.Types.{layoutOf}
 use Rattle.element.specs.Settings.{settingsOf, settingsBytes, settingsFormed}
-use Rattle.element.specs.Control.{selected, unselected, requesting, controlOf, offending, chosen, speedAfter, acted, settled}
+use Rattle.element.specs.Requests.{speedAfter, acted}
+use Rattle.element_control.specs.Control.{selected, unselected, requesting, controlOf, offending, chosen, settled}
 use Rattle.element.proofs.SettingsBothWays.{four}
 use Rattle.element.proofs.StoredSettings.{settings-back, settings-again, settings-storable, acted-storable}
-use Rattle.element.proofs.Acting.{settled-length}
+use Rattle.element_control.proofs.Acting.{settled-length}
 use Rattle.build_element.specs.Wishes.{silent, alike, requestBytes, requestFor, clearing, turning, own, brings, one}
 use Rattle.build_element.proofs.SoundLayout.{request-order, no-stop, request-storable}
 use Rattle.build_element.proofs.Requests.{Reaches, request-again, request-reaches, request-is, reaches-it}

@@ -12,10 +12,11 @@ use Rattle.bits.specs.Bits.{num, bit}
 use Rattle.bits.proofs.Logic.{byByteIf}
 use Rattle.element.specs.declared.types.Kind.{Kind}
 use Rattle.element.specs.declared.settings.Settings.{Settings}
-use Rattle.element.specs.declared.control.Control.{Control}
+use Rattle.element_control.specs.declared.Control.{Control}
 use Rattle.element.specs.Settings.{settingsOf, settingsBytes}
-use Rattle.element.specs.Control.{selected, controlOf, acted}
-use Rattle.element.proofs.Acting.{settled-by, settled-alone}
+use Rattle.element.specs.Requests.{acted}
+use Rattle.element_control.specs.Control.{selected, controlOf}
+use Rattle.element_control.proofs.Acting.{settled-by, settled-alone}
 use Rattle.build_element.specs.Wishes.{inReach, alike, silent, withSelect, requestBytes, requestFor, clearing, turning, own, brings, one}
 use Rattle.build_element.proofs.SoundLayout.{first-small}
 use Rattle.build_element.specs.Parts.{selects, tried, tries}

@@ -14,7 +14,7 @@ use Rattle.element.specs.declared.types.Kind.{Kind}
 use Rattle.element.specs.declared.settings.Settings.{Settings}
 use Rattle.element.specs.Types.{layoutOf}
 use Rattle.element.specs.Settings.{settingsOf, settingsBytes}
-use Rattle.element.specs.Control.{selected, unselected, requesting, controlOf, offending}
+use Rattle.element_control.specs.Control.{selected, unselected, requesting, controlOf, offending}
 use Rattle.element.proofs.SettingsBothWays.{first-clear, second-clear, third-clear, fourth-clear}
 use Rattle.element.proofs.StoredSettings.{sound, reserved-unnamed, Storable, settings-back, length-bytes}
 use Rattle.build_element.specs.Wishes.{silent, withSelect, requestBytes}

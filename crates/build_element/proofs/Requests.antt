@@ -14,7 +14,8 @@ use Rattle.element.specs.declared.types.Kind.{Kind}
 use Rattle.element.specs.declared.settings.Settings.{Settings}
 use Rattle.element.specs.Types.{layoutOf}
 use Rattle.element.specs.Settings.{settingsOf, settingsBytes}
-use Rattle.element.specs.Control.{selected, offending, speedAfter, acted}
+use Rattle.element.specs.Requests.{speedAfter, acted}
+use Rattle.element_control.specs.Control.{selected, offending}
 use Rattle.build_element.specs.Wishes.{withSelect, requestBytes, requestFor}
 use Rattle.element.proofs.SettingsBothWays.{again}
 use Rattle.element.proofs.StoredSettings.{sound, reserved-unnamed}

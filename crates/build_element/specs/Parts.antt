@@ -10,7 +10,7 @@ use Rattle.build_order.specs.Search.{Search}
 use Rattle.element.specs.declared.types.Kind.{Kind}
 use Rattle.element.specs.declared.settings.Settings.{Settings}
 use Rattle.element.specs.Settings.{settingsOf}
-use Rattle.element.specs.Control.{selected, controlOf}
+use Rattle.element_control.specs.Control.{selected, controlOf}
 use Rattle.build_element.specs.Wishes.{silent, requestBytes, requestFor, brings, one}
 
 -- SELECT as a number

@@ -8,8 +8,8 @@ use Rattle.bits.specs.Choice.{pick}
 use Rattle.element.specs.declared.types.Kind.{Kind}
 use Rattle.element.specs.declared.settings.Settings.{Settings}
 use Rattle.element.specs.Settings.{settingsOf, settingsBytes}
-use Rattle.element.specs.declared.control.Control.{Control}
-use Rattle.element.specs.Control.{settled}
+use Rattle.element_control.specs.declared.Control.{Control}
+use Rattle.element_control.specs.Control.{settled}
 
 -- four bytes that ask for nothing
 abbrev pub silent : List ℕ

@@ -1,9 +1,9 @@
 // One element's wish: the control elements that bring its stored settings to wanted ones.
-use element::control::Control;
 use element::settings::Settings;
 use element::types::Kind;
+use element_control::Control;
 ghost use mathlib.Core.Path.{_≡_};
-ghost use Rattle.element.specs.Control.{controlOf};
+ghost use Rattle.element_control.specs.Control.{controlOf};
 ghost use Rattle.build_element.specs.Wishes.{inReach, alike, requestBytes, requestFor, turning, own, brings, one};
 ghost use Rattle.build_element.specs.Parts.{tried, tries};
 

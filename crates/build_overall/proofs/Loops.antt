@@ -12,7 +12,7 @@ use Rattle.bits.specs.Choice.{allBelow, firstBelow, sumBelow}
 use Rattle.bits.specs.Bits.{num}
 use Rattle.bits.proofs.Halves.{num-small}
 use Rattle.bits.proofs.Logic.{by-case, pick-yes, pick-no, fails, first-none, first-at, first-passes}
-use Rattle.element.specs.Control.{controlOf}
+use Rattle.element_control.specs.Control.{controlOf}
 use Rattle.build_order.specs.Order.{asNumber, sooner}
 use Rattle.build_order.specs.Search.{Search, cost, better, bestTried, bestOf, best}
 use Rattle.build_order.proofs.BestRow.{best-again, best-none}

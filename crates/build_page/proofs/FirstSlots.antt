@@ -19,7 +19,7 @@ use Rattle.build_order.specs.Search.{cost, best}
 use Rattle.build_order.proofs.BestRow.{best-row}
 use Rattle.build_order.proofs.ByCount.{after-refl, after-append, joined-split, sum-same, sum-split}
 use Rattle.element.specs.declared.types.Kind.{Kind}
-use Rattle.element.specs.Control.{selected, offending, controlOf, chosen, settled}
+use Rattle.element_control.specs.Control.{selected, offending, controlOf, chosen, settled}
 use Rattle.element.proofs.StoredSettings.{reserved-unnamed}
 use Rattle.build_element.specs.Wishes.{one}
 use Rattle.build_element.specs.Parts.{selects, under, part}

@@ -17,7 +17,7 @@ use Rattle.bits.proofs.Rows.{as-four}
 use Rattle.bits.specs.Choice.{pick, allBelow}
 use Rattle.bits.proofs.Logic.{by-case, pick-yes, pick-no, below-all, below-fails, below-next, fails, first-none}
 use Rattle.element.specs.Settings.{settingsFormed}
-use Rattle.element.specs.Control.{controlOf}
+use Rattle.element_control.specs.Control.{controlOf}
 use Rattle.build_element.specs.Wishes.{silent, inReach, one}
 use Rattle.build_element.specs.Parts.{selects}
 use Rattle.build_element.proofs.RequestBytes.{select-counts}

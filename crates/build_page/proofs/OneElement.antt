@@ -15,7 +15,7 @@ use Rattle.bits.proofs.Logic.{by-case, pick-yes, pick-no}
 use Rattle.build_order.specs.Search.{cost, best}
 use Rattle.build_order.proofs.BestRow.{best-none}
 use Rattle.element.specs.declared.types.Kind.{Kind}
-use Rattle.element.specs.Control.{controlOf}
+use Rattle.element_control.specs.Control.{controlOf}
 use Rattle.build_element.specs.Wishes.{silent, brings}
 use Rattle.build_element.proofs.FirstElement.{Row, brings-same, one-same}
 use Rattle.build_element.proofs.BestPart.{search-facts}

@@ -11,8 +11,8 @@ use Rattle.bits.specs.Places.{fourAt}
 use Rattle.bits.proofs.Logic.{never}
 use Rattle.bits.proofs.Rows.{joined-same}
 use Rattle.element.specs.Settings.{settingsOf, settingsFormed}
-use Rattle.element.specs.Control.{controlOf, offending}
-use Rattle.element.proofs.Acting.{swap-kept}
+use Rattle.element_control.specs.Control.{controlOf, offending}
+use Rattle.element_control.proofs.Acting.{swap-kept}
 use Rattle.refusals.specs.declared.Answer.the-variants.{Accepted}
 use Rattle.build_element.specs.Wishes.{one}
 use Rattle.build_element.proofs.FirstElement.{one-reaches}

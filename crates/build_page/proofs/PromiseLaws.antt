@@ -15,7 +15,7 @@ use Rattle.bits.specs.Numbers.{Bytes}
 use Rattle.bits.proofs.Logic.{by-case, below-all}
 use Rattle.bits.proofs.Rows.{length-joined}
 use Rattle.element.specs.Settings.{settingsFormed}
-use Rattle.element.proofs.Acting.{settled-formed}
+use Rattle.element_control.proofs.Acting.{settled-formed}
 use Rattle.refusals.specs.declared.Refusal.{Refusal}
 use Rattle.refusals.specs.declared.Refusal.the-variants.{Unreachable, OutputTooShort}
 use Rattle.refusals.specs.declared.Answer.{Answer}

@@ -7,7 +7,7 @@ use native.Mathlib.Nat.{add-zero}
 use native.Mathlib.Omega.{arith}
 use borrow.Author.Tests.{eq-eqb, ne-eqb}
 use Rattle.bits.proofs.Logic.{pick-yes, pick-no}
-use Rattle.element.specs.Control.{controlOf}
+use Rattle.element_control.specs.Control.{controlOf}
 use Rattle.build_element.specs.Wishes.{one}
 use Rattle.shelf.specs.Limits.{mostTypes}
 use Rattle.shelf.specs.Types.{typesOf, typeCount, before, elementsOf, typeOf, kindAt}

@@ -6,7 +6,7 @@ use Rattle.bits.specs.Choice.{pick, sumBelow}
 use Rattle.bits.specs.Rows.{joined}
 use Rattle.element.specs.declared.types.Kind.{Kind}
 use Rattle.element.specs.Types.{kindOf}
-use Rattle.element.specs.Control.{controlOf}
+use Rattle.element_control.specs.Control.{controlOf}
 use Rattle.build_order.specs.Search.{Search, best}
 use Rattle.build_element.specs.Wishes.{inReach, one}
 use Rattle.build_element.specs.Parts.{selects, overallSearch}

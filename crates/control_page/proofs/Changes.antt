@@ -13,8 +13,8 @@ use Rattle.bits.proofs.Logic.{by-case, pick-no}
 use Rattle.bits.proofs.Rows.{joined-four, joined-same}
 use Rattle.element.specs.Types.{had, ordered}
 use Rattle.element.specs.Settings.{settingsFormed}
-use Rattle.element.specs.Control.{selected, offending, settled}
-use Rattle.element.proofs.Acting.{settled-formed, settled-twice, settled-none}
+use Rattle.element_control.specs.Control.{selected, offending, settled}
+use Rattle.element_control.proofs.Acting.{settled-formed, settled-twice, settled-none}
 use Rattle.shelf.specs.Limits.{elementPlace}
 use Rattle.shelf.specs.Types.{elementsOf, kindAt}
 use Rattle.shelf.specs.Elements.{settingsAt, thresholdsAt, readingAt, nominalAt}

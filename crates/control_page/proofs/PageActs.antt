@@ -9,10 +9,11 @@ use Rattle.bits.specs.Places.{fourAt, putFour, foursPut}
 use Rattle.bits.proofs.FoursPut.{put-same, fours-next, fours-length}
 use Rattle.element.specs.declared.types.Kind.{Kind}
 use Rattle.element.specs.declared.settings.Settings.{Settings}
-use Rattle.element.specs.declared.control.Control.{Control}
+use Rattle.element_control.specs.declared.Control.{Control}
 use Rattle.element.specs.Settings.{settingsOf, settingsBytes}
-use Rattle.element.specs.Control.{selected, controlOf, chosen, acted, settled}
-use Rattle.element.proofs.Acting.{settled-length, own-acts, overall-acts, settled-by, settled-alone}
+use Rattle.element.specs.Requests.{acted}
+use Rattle.element_control.specs.Control.{selected, controlOf, chosen, settled}
+use Rattle.element_control.proofs.Acting.{settled-length, own-acts, overall-acts, settled-by, settled-alone}
 use Rattle.refusals.specs.declared.Answer.{Answer}
 use Rattle.refusals.specs.declared.Refusal.{Refusal}
 use Rattle.refusals.specs.declared.Answer.the-variants.{Accepted, Refused}

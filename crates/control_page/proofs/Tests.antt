@@ -11,7 +11,7 @@ use Rattle.bits.specs.Bits.{only}
 use Rattle.bits.specs.Places.{fourAt}
 use Rattle.bits.proofs.Logic.{pick-yes, pick-no, fails}
 use Rattle.bits.proofs.Offence.{refused-at, refused-none}
-use Rattle.element.specs.Control.{offending}
+use Rattle.element_control.specs.Control.{offending}
 use Rattle.refusals.specs.declared.Refusal.the-variants.{NotAllowed}
 use Rattle.refusals.specs.declared.Answer.the-variants.{Accepted, Refused}
 use Rattle.refusals.specs.declared.Tested.{Tested}

@@ -4,8 +4,8 @@ use Prim.Native.Nat.{ℕ}
 use Rattle.bits.specs.Choice.{pick}
 use Rattle.bits.specs.Places.{fourAt}
 use Rattle.bits.specs.Rows.{joined}
-use Rattle.element.specs.declared.control.Control.{Control}
-use Rattle.element.specs.Control.{controlOf, chosen, settled}
+use Rattle.element_control.specs.declared.Control.{Control}
+use Rattle.element_control.specs.Control.{controlOf, chosen, settled}
 use Rattle.shelf.specs.Types.{elementsOf}
 use Rattle.shelf.specs.Elements.{settingsAt}
 use Rattle.shelf.specs.SettingsList.{withSettings}

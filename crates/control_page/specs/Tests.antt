@@ -7,7 +7,7 @@ use lib.ListN.{getD}
 use Rattle.bits.specs.Choice.{pick, offenceIn}
 use Rattle.bits.specs.Bits.{only}
 use Rattle.bits.specs.Places.{fourAt}
-use Rattle.element.specs.Control.{offending}
+use Rattle.element_control.specs.Control.{offending}
 use Rattle.refusals.specs.declared.Refusal.the-variants.{NotAllowed}
 use Rattle.refusals.specs.declared.Answer.{Answer}
 use Rattle.refusals.specs.declared.Answer.the-variants.{Accepted}

@@ -1,14 +1,14 @@
 // What a control page makes of a shelf.
-use element::control::Control;
 use element::settings::Settings;
 use element::types::Kind;
+use element_control::Control;
 use page::places;
 use page::places::Places;
 use shelf::elements;
 use shelf::types;
 ghost use mathlib.Core.Path.{_≡_};
 ghost use mathlib.Core.Bool.{true};
-ghost use Rattle.element.specs.Control.{selected, controlOf, settled};
+ghost use Rattle.element_control.specs.Control.{selected, controlOf, settled};
 ghost use Rattle.shelf.specs.Limits.{HasElement};
 ghost use Rattle.shelf.specs.Elements.{settingsAt, settingsPut};
 ghost use Rattle.shelf.specs.SettingsList.{withSettings};

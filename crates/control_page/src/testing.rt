@@ -1,6 +1,6 @@
 // Which control pages a shelf accepts.
-use element::control::Control;
 use element::types::Kind;
+use element_control::Control;
 use page::slots;
 use refusals::Answer;
 use refusals::Refusal;
@@ -9,7 +9,7 @@ ghost use mathlib.Core.Path.{_≡_};
 ghost use Prim.Native.Nat.{_+_, _≤_};
 ghost use lib.ListN.{length};
 ghost use Rattle.bits.specs.Places.{fourAt};
-ghost use Rattle.element.specs.Control.{offending};
+ghost use Rattle.element_control.specs.Control.{offending};
 ghost use Rattle.shelf_formed.specs.Formed.{HasFront};
 ghost use Rattle.page.specs.Slots.{slotsOf, slotPlace};
 ghost use Rattle.control_page.specs.Tests.{offence, bytesTested, controlTested};

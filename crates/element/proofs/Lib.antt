@@ -10,6 +10,5 @@ pub mod TypeFacts
 pub mod TypeMasks
 pub mod TypeShapes
 pub mod StoredSettings
-pub mod Acting
 pub mod TypeThresholds
 pub mod TypeStatus

@@ -14,7 +14,7 @@ use Rattle.bits.proofs.Halves.{flags-high, again-byte}
 use Rattle.element.specs.declared.layout.Layout.{Layout}
 use Rattle.element.specs.declared.settings.Settings.{Settings}
 use Rattle.element.specs.Layouts.{said, stored, formed}
-use Rattle.element.specs.Control.{speedAfter, acted}
+use Rattle.element.specs.Requests.{speedAfter, acted}
 use Rattle.element.proofs.Flags.{keeps, mixes, splits, kept-twice, kept-within, mix-flags, mix-speed, mix-within, split-again}
 
 pub four : {a b c d p q r s : ℕ} → a ≡ p → b ≡ q → c ≡ r → d ≡ s → _≡_ {A = List ℕ} (a ∷ b ∷ c ∷ d ∷ []) (p ∷ q ∷ r ∷ s ∷ [])

@@ -9,7 +9,7 @@ use Rattle.element.specs.declared.settings.Settings.{Settings}
 use Rattle.element.specs.Layouts.{unnamed}
 use Rattle.element.specs.Types.{layoutOf}
 use Rattle.element.specs.Settings.{settingsOf, settingsBytes, settingsFormed}
-use Rattle.element.specs.Control.{reservedIn, acted}
+use Rattle.element.specs.Requests.{reservedIn, acted}
 use Rattle.element.proofs.SettingsBothWays as layouts
 use Rattle.element.proofs.TypeFacts.{facts}
 

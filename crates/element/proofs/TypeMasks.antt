@@ -22,7 +22,7 @@ use Rattle.element.specs.Layouts.{settingsMask, controlMask}
 use Rattle.element.specs.Thresholds.{thresholdsMask}
 use Rattle.element.specs.Rules.{Numbers}
 use Rattle.element.specs.Types.{rulesOf, had}
-use Rattle.element.specs.Control.{reservedIn}
+use Rattle.element.specs.Requests.{reservedIn}
 use Rattle.element.proofs.Flags.{mask-small}
 use Rattle.element.proofs.TypeFacts.{facts}
 

@@ -5,5 +5,5 @@ pub mod StatusLayout
 pub mod Rules
 pub mod Types
 pub mod Settings
-pub mod Control
+pub mod Requests
 pub mod Status

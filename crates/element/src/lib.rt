@@ -1,7 +1,6 @@
-// The element types, and of one element by value what it is set to and what a control element makes of that.
+// The element types, and of one element by value what it is set to.
 //
 // Every function takes any value and asks nothing of its caller.
-pub mod control;
 pub mod layout;
 pub mod settings;
 pub mod types;

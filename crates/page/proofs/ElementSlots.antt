@@ -25,7 +25,7 @@ use Rattle.page.proofs.SlotsBefore.{start-next}
 use Rattle.page.specs.Places.{ownSlot, overallSlot, placesOf, HasSlots}
 use Rattle.page.specs.Header.{pageTested, HasPage}
 use Rattle.page.proofs.SlotsOfFront.{first-within, end-there}
-use Rattle.page.proofs.SlotBounds.{shelf-there}
+use Rattle.shelf_formed.proofs.ElementPut.{shelf-there}
 use Rattle.page.proofs.HeaderBothWays.{tested-has}
 
 pub places-alike : (s x : List ℕ) → front x ≡ front s → (j : ℕ) → j < elementsOf s → placesOf x j ≡ placesOf s j

@@ -9,10 +9,8 @@ use lib.ListN.{length}
 use borrow.Author.Tests.{eqb-true}
 use Rattle.bits.proofs.Logic.{and-left, and-right}
 use Rattle.shelf.specs.Limits.{mostTypes, mostElements, elementPlace}
-use Rattle.shelf_formed.specs.Formed.{frontFormed, HasFront, wellFormed, configurationFormed}
+use Rattle.shelf_formed.specs.Formed.{frontFormed, HasFront, configurationFormed}
 use Rattle.shelf_formed.proofs.FormedShelf.{few-types, few-elements}
-use Rattle.shelf_formed.proofs.ElementTypes.{front-formed}
-use Rattle.shelf_formed.proofs.ElementPut.{length-formed}
 use Rattle.page.specs.Slots.{slotsOf}
 
 module _ (c : List ℕ) where
@@ -20,10 +18,7 @@ module _ (c : List ℕ) where
   unfolding configurationFormed
   configuration-front h = and-left (frontFormed c) (eqb (length c) (elementPlace 0)) h
 
-  -- of a shelf and of a configuration all types are there
-  pub shelf-there : wellFormed c ≡ true → HasFront c
-  shelf-there h = (front-formed c h, omega (arith, length-formed c h))
-
+  -- of a configuration all types are there
   pub configuration-there : configurationFormed c ≡ true → HasFront c
   unfolding configurationFormed
   configuration-there h =

@@ -19,7 +19,8 @@ use Rattle.shelf_formed.proofs.FormedShelf.{few-types, few-elements}
 use Rattle.shelf_formed.proofs.Opening.{formed-sizes, not-formed, configuration-sizes, not-configuration}
 use Rattle.page.specs.Slots.{slotsOf}
 use Rattle.page.specs.Header.{shelfTested, configurationTested}
-use Rattle.page.proofs.SlotBounds.{shelf-there, configuration-there}
+use Rattle.shelf_formed.proofs.ElementPut.{shelf-there}
+use Rattle.page.proofs.SlotBounds.{configuration-there}
 use Rattle.page.proofs.SlotsBefore.{slots-are}
 
 module _ (s : List ℕ) {o : Opened} where

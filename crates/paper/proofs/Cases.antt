@@ -13,7 +13,8 @@ use Rattle.bits.specs.Bits.{num}
 use Rattle.bits.proofs.Logic.{and-left, and-right}
 use Rattle.element.specs.Types.{kindOf, served, layoutOf, readingAllowed, nominalAllowed, had, ordered, verdictOf}
 use Rattle.element.specs.Settings.{settingsOf, settingsBytes, settingsFormed}
-use Rattle.element.specs.Control.{controlOf, reservedIn, offending, chosen, settled}
+use Rattle.element.specs.Requests.{reservedIn}
+use Rattle.element_control.specs.Control.{controlOf, offending, chosen, settled}
 use Rattle.element.specs.Verdict.{over, under}
 use Rattle.element.specs.Status.{entryBy, shownBy, statusBytes}
 use Rattle.shelf.specs.Types.{before, elementsOf, typeOf, kindAt}
@@ -22,10 +23,10 @@ use Rattle.shelf_formed.specs.Formed.{headFormed, textFormed, typeFormed, typeE
 use Rattle.page.specs.Slots.{slotsOf, startOf, slotType, isOverall, slotAt}
 use Rattle.page.specs.Header.{lengthSaid, headed, pageTested, header}
 use Rattle.page.specs.Places.{placesOf}
-use Rattle.shelf_status.specs.ShelfStatus.{verdictAt, shownAt, codeAt, worst, shownIn, pageBits}
+use Rattle.shelf_status.specs.ShelfStatus.{verdictAt, shownAt, codeAt, worst, pageBits}
 use Rattle.control_page.specs.Tests.{slotOffending, offence, controlTested, valid}
 use Rattle.control_page.specs.Brought.{settingsAfter, broughtTo}
-use Rattle.status_page.specs.Page.{slotBytes, pageWith, statusPage}
+use Rattle.status_page.specs.Page.{slotBytes, pageWith, statusPage, shownIn}
 use Rattle.refusals.specs.declared.Answer.the-variants.{Accepted}
 use Rattle.refusals.specs.Outcomes.{accepts}
 use Rattle.refusals.proofs.AcceptedTests.{accepted}

@@ -14,7 +14,7 @@ use Rattle.shelf.specs.Types.{elementsOf}
 use Rattle.shelf.specs.Elements.{settingsAt, thresholdsAt, settingsPut, thresholdsPut}
 use Rattle.shelf_formed.specs.declared.Sizes.{Sizes}
 use Rattle.shelf_formed.specs.declared.Opened.the-variants.{Shelf}
-use Rattle.shelf_formed.specs.Formed.{frontFormed, elementsFormed, wellFormed, opened}
+use Rattle.shelf_formed.specs.Formed.{frontFormed, HasFront, elementsFormed, wellFormed, opened}
 use Rattle.shelf_formed.proofs.Opening.{formed-sizes}
 use Rattle.shelf_formed.proofs.FormedShelf.{few-types}
 use Rattle.shelf_formed.proofs.ElementTypes.{front-formed}
@@ -25,6 +25,10 @@ unfolding wellFormed
 length-formed s h =
     let l = eqb (length s) (elementPlace (elementsOf s)) in
     eqb-true (length s) (elementPlace (elementsOf s)) (and-right (frontFormed s) l (and-left (frontFormed s && l) (elementsFormed s (elementsOf s)) h))
+
+-- all types are there
+pub shelf-there : (s : List ℕ) → wellFormed s ≡ true → HasFront s
+shelf-there s h = (front-formed s h, omega (arith, length-formed s h))
 
 -- what is opened has its types and all its elements
 pub opened-there : (s : List ℕ) {z : Sizes} → opened s ≡ Shelf z → (z .types ≤ mostTypes) × (elementPlace (z .elements) ≤ length s)

@@ -9,11 +9,9 @@ use Rattle.element.specs.declared.types.Kind.{Kind}
 use Rattle.element.specs.declared.verdict.Verdict.{Verdict}
 use Rattle.element.specs.Settings.{settingsOf}
 use Rattle.element.specs.Types.{verdictOf}
-use Rattle.element.specs.Status.{shownBy, codeAlone}
+use Rattle.element.specs.Status.{shownBy}
 use Rattle.shelf.specs.Types.{elementsOf, kindAt}
 use Rattle.shelf.specs.Elements.{settingsAt, thresholdsAt, readingAt, nominalAt}
-use Rattle.page.specs.declared.slots.Slot.{Slot}
-use Rattle.page.specs.Slots.{slotAt}
 use Rattle.shelf_status.specs.declared.PageBits.{PageBits}
 
 -- element j, of kind k: what follows from what is stored of it, its code, and the entry that says what it shows
@@ -46,12 +44,6 @@ worst s k first end = worstOf (has s k first (end - first))
 -- the worse of two codes
 abbrev pub worse : ℕ → ℕ → ℕ
 worse a b = worstOf (λ code. eqb a code || eqb b code)
-
--- slot i of the status page: a type's overall element shows the worst code of its elements
-unfoldable pub shownIn : List ℕ → ℕ → List ℕ
-shownIn s i =
-    let at : Slot = slotAt s i in
-    pick (at .overall) (codeAlone (worst s (at .kind) (at .first) (at .end))) (shownAt s (at .kind) (at .first))
 
 -- some element has the code
 abbrev pub isCode : List ℕ → ℕ → ℕ → Bool

@@ -1,11 +1,7 @@
 // The pages that act, applied to a shelf.
 use crate::answer;
 use refusals::Answer;
-
-pub enum Act {
-    Control,
-    Thresholds,
-}
+use tool_input::arguments::Act;
 
 // The answer and, if the page is accepted, what the shelf holds afterwards.
 pub fn tell(act: Act, shelf: &mut [u8], page: &[u8]) {

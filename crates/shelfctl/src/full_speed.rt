@@ -1,9 +1,9 @@
 // The built-in shelf, brought to full speed by the page that is built for it.
 use crate::applying;
-use crate::applying::Act;
 use crate::building;
 use crate::pages;
-use crate::pages::Page;
+use tool_input::arguments::Act;
+use tool_input::arguments::Page;
 use tool_shelf::builtin;
 use tool_shelf::changes;
 use tool_shelf::settings;

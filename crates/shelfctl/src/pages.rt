@@ -1,12 +1,7 @@
 // The pages of a shelf, in hexadecimal.
 use refusals::Written;
 use shelf::limits;
-
-pub enum Page {
-    Configuration,
-    Status,
-    Thresholds,
-}
+use tool_input::arguments::Page;
 
 // The longest of all pages is a configuration.
 const LONGEST: usize = limits::LONGEST_CONFIGURATION_PAGE;

@@ -12,8 +12,8 @@ use Rattle.bits.proofs.Offence.{refused-at, refused-none}
 use Rattle.element.specs.Status.{statusOffending, overallOffending, codeAlone, entryOf, statusBytes}
 use Rattle.page.specs.declared.slots.Slot.{Slot}
 use Rattle.page.specs.Slots.{slotAt, slotPlace}
-use Rattle.shelf_status.specs.ShelfStatus.{shownAt, worst, shownIn}
-use Rattle.status_page.specs.Page.{slotBytes, slotRow}
+use Rattle.shelf_status.specs.ShelfStatus.{shownAt, worst}
+use Rattle.status_page.specs.Page.{slotBytes, slotRow, shownIn}
 use Rattle.status_page.specs.Read.{slotOffending, offence, slotShown}
 
 -- four bytes of a slot of the shelf's page, overall or of an element, from what the calls say

@@ -27,8 +27,8 @@ use Rattle.page.proofs.HeaderBothWays.{length-tested}
 use Rattle.page.proofs.PagePut.{page-placed, length-page}
 use Rattle.status_record.proofs.WholeRecord.{record-put}
 use Rattle.shelf_status.specs.declared.PageBits.{PageBits}
-use Rattle.shelf_status.specs.ShelfStatus.{shownIn, pageBits, bitsByte}
-use Rattle.status_page.specs.Page.{slotBytes, slotRow, pageWith, statusPage}
+use Rattle.shelf_status.specs.ShelfStatus.{pageBits, bitsByte}
+use Rattle.status_page.specs.Page.{slotBytes, slotRow, pageWith, statusPage, shownIn}
 use Rattle.status_record.specs.Entries.{recordWith, entryPlace, headPut, entriesPut}
 use Rattle.status_page.specs.Read.{offence, bytesTested, statusTested, statusRead, slotShown, bitsOn, statusRecord}
 

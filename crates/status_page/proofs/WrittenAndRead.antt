@@ -38,8 +38,8 @@ use Rattle.page.proofs.PagePut.{slot-read}
 use Rattle.page.proofs.SlotsOfFront.{slots-same, header-same, slot-same, first-there, kind-first}
 use Rattle.page.proofs.HeaderBothWays.{byte-small, head-written}
 use Rattle.shelf_status.specs.declared.PageBits.{PageBits}
-use Rattle.shelf_status.specs.ShelfStatus.{shownAt, worst, has, shownIn, pageBits, bitsByte}
-use Rattle.status_page.specs.Page.{slotBytes, slotRow, pageWith, statusPage}
+use Rattle.shelf_status.specs.ShelfStatus.{shownAt, worst, has, pageBits, bitsByte}
+use Rattle.status_page.specs.Page.{slotBytes, slotRow, pageWith, statusPage, shownIn}
 use Rattle.status_record.specs.Entries.{recordWith, headRow}
 use Rattle.status_page.specs.Read.{slotOffending, statusRead, slotShown, bitsOn, statusRecord}
 use Rattle.status_page.proofs.Refusals.{row-length, parts-read}

@@ -10,10 +10,10 @@ ghost use mathlib.Core.Path.{_≡_};
 ghost use Rattle.bits.specs.Choice.{pick};
 ghost use Rattle.element.specs.Status.{codeAlone};
 ghost use Rattle.refusals.specs.Outcomes.{placed, WritesPage};
-ghost use Rattle.shelf_status.specs.ShelfStatus.{shownAt, worst, shownIn};
+ghost use Rattle.shelf_status.specs.ShelfStatus.{shownAt, worst};
 ghost use Rattle.page.specs.Slots.{slotsOf, slotsPut, HasElements};
 ghost use Rattle.page.specs.Header.{shelfTested, HasPage};
-ghost use Rattle.status_page.specs.Page.{slotBytes, slotRow, statusPage};
+ghost use Rattle.status_page.specs.Page.{slotBytes, slotRow, statusPage, shownIn};
 
 pub const CODE: u8 = 0x02;
 

@@ -3,7 +3,7 @@ use native.Mathlib.Omega.{arith}
 use denote.Ref.{now}
 use borrow.Author.Tests.{not-true, not-false}
 use Rattle.shelf_formed.proofs.ElementPut.{length-formed}
-use Rattle.page.proofs.SlotBounds.{shelf-there}
+use Rattle.shelf_formed.proofs.ElementPut.{shelf-there}
 use Rattle.build_page.proofs.BestPage.{bytes-of}
 use Rattle.build_page.proofs.PromiseKept.{wish-refused, wish-there, none-reaches, page-promised}
 use borrow.Author.Needs.{needs}

@@ -7,7 +7,7 @@ use borrow.Author.Needs.{needs}
 use Rattle.shelf_formed.proofs.ElementTypes.{front-formed}
 use Rattle.bits.specs.Numbers.{bytes}
 use Rattle.page.specs.Slots.{slotPlace, slotsPut, slotCarried}
-use Rattle.page.proofs.SlotBounds.{shelf-there}
+use Rattle.shelf_formed.proofs.ElementPut.{shelf-there}
 use Rattle.page.proofs.SlotWalk.{run-stands, slot-walked, walk-on}
 use Rattle.bits.proofs.FoursPut.{fours-next, fours-length}
 use Rattle.build_page.proofs.Loops.{standing, row-next, count-next, slot-wishes}

@@ -2,7 +2,7 @@
 use mathlib.Core.Path.{refl}
 use native.Mathlib.Omega.{arith}
 use denote.Ref.{now}
-use Rattle.page.proofs.SlotBounds.{shelf-there}
+use Rattle.shelf_formed.proofs.ElementPut.{shelf-there}
 use Rattle.page.proofs.HeaderTests.{head-length}
 use Rattle.build_page.proofs.Refusals.{no-room, page-built, page-left}
 use borrow.Author.Needs.{needs}

@@ -4,7 +4,7 @@ use Prim.Native.Nat.{_-_, _≤_}
 use native.Mathlib.Omega.{arith}
 use denote.Ref.{now}
 use Rattle.shelf_formed.proofs.ElementPut.{room}
-use Rattle.page.proofs.SlotBounds.{shelf-there}
+use Rattle.shelf_formed.proofs.ElementPut.{shelf-there}
 use Rattle.shelf.specs.Types.{carried}
 use Rattle.shelf.proofs.TypeRuns.{run-kind, run-on}
 use Rattle.shelf_status.specs.ShelfStatus.{anyBelow, isCode, pageBits}

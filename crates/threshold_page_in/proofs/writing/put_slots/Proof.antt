@@ -6,7 +6,7 @@ use denote.Ref.{now}
 use borrow.Author.Needs.{needs}
 use Rattle.page.specs.Slots.{slotPlace, slotsPut, slotCarried}
 use Rattle.shelf_formed.proofs.ElementTypes.{front-formed}
-use Rattle.page.proofs.SlotBounds.{shelf-there}
+use Rattle.shelf_formed.proofs.ElementPut.{shelf-there}
 use Rattle.page.proofs.ElementSlots.{slot-has}
 use Rattle.page.proofs.SlotWalk.{walk-on, run-stands, slot-walked}
 use Rattle.bits.proofs.FoursPut.{fours-next, fours-length}

@@ -1,13 +1,13 @@
--- `element::control::reserved` meets its contract. Assumes nothing.
+-- `element_control::reserved` meets its contract. Assumes nothing.
 use mathlib.Core.Path.{ap, _∙_}
 use Prim.Native.Nat.{ℕ, _+_}
 use native.Mathlib.Omega.{arith}
 use Rattle.bits.specs.Numbers.{bytes}
 use Rattle.bits.specs.Masks.{firstOutside}
 use Rattle.element.proofs.TypeMasks.{settings-small, reserved-outside}
 use borrow.Author.Needs.{needs}
-use Rattle.element.proofs.control.reserved.Statement.{statement}
-use Rattle.element.proofs.control.reserved.Tie as tie
+use Rattle.element_control.proofs.reserved.Statement.{statement}
+use Rattle.element_control.proofs.reserved.Tie as tie
 
 add-first-outside : tie.Need-add-first-outside
 add-first-outside c = let h = settings-small (c .before .args .kind) in let e = c .settings .ensures in omega arith

@@ -1,7 +1,7 @@
--- `element::control::Control::act` meets its contract. Assumes nothing.
+-- `element_control::Control::act` meets its contract. Assumes nothing.
 use borrow.Author.Needs.{needs}
-use Rattle.element.proofs.control.Control.act.Statement.{statement}
-use Rattle.element.proofs.control.Control.act.Tie as tie
+use Rattle.element_control.proofs.Control.act.Statement.{statement}
+use Rattle.element_control.proofs.Control.act.Tie as tie
 
 returns : tie.Need-returns
 returns c = rw (c .before .before .speed-after .ensures)

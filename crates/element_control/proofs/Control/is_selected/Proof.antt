@@ -1,8 +1,8 @@
--- `element::control::Control::is_selected` meets its contract. Assumes nothing.
+-- `element_control::Control::is_selected` meets its contract. Assumes nothing.
 use Rattle.bits.proofs.Halves.{and1}
 use borrow.Author.Needs.{needs}
-use Rattle.element.proofs.control.Control.is_selected.Statement.{statement}
-use Rattle.element.proofs.control.Control.is_selected.Tie as tie
+use Rattle.element_control.proofs.Control.is_selected.Statement.{statement}
+use Rattle.element_control.proofs.Control.is_selected.Tie as tie
 
 returns : tie.Need-returns
 returns c = rw and1

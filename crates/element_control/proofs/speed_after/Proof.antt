@@ -1,7 +1,7 @@
--- `element::control::speed_after` meets its contract. Assumes nothing.
+-- `element_control::speed_after` meets its contract. Assumes nothing.
 use borrow.Author.Tests.{eq-eqb, ne-eqb}
-use Rattle.element.proofs.control.speed_after.Statement.{statement}
-use Rattle.element.proofs.control.speed_after.Tie as tie
+use Rattle.element_control.proofs.speed_after.Statement.{statement}
+use Rattle.element_control.proofs.speed_after.Tie as tie
 
 returns : tie.Need-returns
 returns c = rw (eq-eqb (c .before .args .code) 0 (c .if1 .taken))

@@ -1,16 +1,15 @@
 -- Control elements: what one asks, which of two acts on an element, and what it makes of settings. Assumes nothing.
-use mathlib.Core.Bool.{Bool, true, false, not, _&&_}
+use mathlib.Core.Bool.{Bool, true, false}
 use mathlib.Core.List.{List}
 use Prim.Native.Nat.{ℕ}
-use lib.Dec.{eqb}
 use lib.ListN.{getD}
 use Rattle.bits.specs.Choice.{pick}
 use Rattle.bits.specs.Bits.{bit}
 use Rattle.element.specs.declared.types.Kind.{Kind}
 use Rattle.element.specs.declared.settings.Settings.{Settings}
-use Rattle.element.specs.declared.control.Control.{Control}
-use Rattle.element.specs.Types.{rulesOf}
+use Rattle.element_control.specs.declared.Control.{Control}
 use Rattle.element.specs.Settings.{settingsOf, settingsBytes}
+use Rattle.element.specs.Requests.{reservedIn, acted}
 
 -- byte 0, bit 7
 abbrev pub selected : List ℕ → Bool
@@ -32,10 +31,6 @@ requesting r = record { select = true; request = r }
 unfoldable pub controlOf : Kind → List ℕ → Control
 controlOf k e = pick (selected e) (requesting (settingsOf k e)) unselected
 
--- the first byte with a reserved bit set, 4 if none has one
-unfoldable pub reservedIn : Kind → List ℕ → ℕ
-reservedIn k e = rulesOf k .controlOffence e
-
 -- reserved bits are tested in selected elements only
 unfoldable pub offending : Kind → List ℕ → ℕ
 offending k e = pick (selected e) (reservedIn k e) 4
@@ -43,22 +38,6 @@ offending k e = pick (selected e) (reservedIn k e) 4
 -- an individual element with SELECT acts alone; one without leaves its element to the overall one
 unfoldable pub chosen : Control → Control → Control
 chosen overall own = pick (own .select) own overall
-
--- speed code 0 keeps SPEED; 1 to 7 replaces it
-abbrev pub speedAfter : ℕ → ℕ → ℕ
-speedAfter code stored = pick (eqb code 0) stored code
-
--- what a request r makes of settings s: PRDFAIL, DISABLED and the type's flags take the bits; RST SWAP 1 clears SWAP, 0 keeps it
-abbrev pub acted : Settings → Settings → Settings
-acted r s = record {
-  prdfail = r .prdfail;
-  disabled = r .disabled;
-  swap = s .swap && not (r .swap);
-  flags1 = r .flags1;
-  flags2 = r .flags2;
-  flags3 = r .flags3;
-  speed = speedAfter (r .speed) (s .speed);
-}
 
 -- the stored settings afterwards; an element without SELECT leaves them as they are
 unfoldable pub settled : Kind → Control → List ℕ → List ℕ

@@ -1,10 +1,10 @@
--- `element::control::Control::offending` meets its contract. Assumes nothing.
+-- `element_control::Control::offending` meets its contract. Assumes nothing.
 use mathlib.Core.Path.{sym, _∙_}
 use Rattle.bits.proofs.Logic.{pick-yes, pick-no}
-use Rattle.element.specs.Control.{offending}
+use Rattle.element_control.specs.Control.{offending}
 use borrow.Author.Needs.{needs}
-use Rattle.element.proofs.control.Control.offending.Statement.{statement}
-use Rattle.element.proofs.control.Control.offending.Tie as tie
+use Rattle.element_control.proofs.Control.offending.Statement.{statement}
+use Rattle.element_control.proofs.Control.offending.Tie as tie
 
 returns : tie.Need-returns
 unfolding offending

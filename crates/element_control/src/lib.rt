@@ -1,8 +1,11 @@
-// A control element: what it asks, which of two acts, and what it makes of settings.
-use crate::settings::Settings;
-use crate::types::Kind;
+// A control element, by value: what it asks, which of two acts, and what it makes of settings.
+//
+// Every function takes any value and asks nothing of its caller.
+use element::settings::Settings;
+use element::types::Kind;
 ghost use mathlib.Core.Path.{_≡_};
-ghost use Rattle.element.specs.Control.{selected, controlOf, reservedIn, offending, speedAfter, acted};
+ghost use Rattle.element.specs.Requests.{reservedIn, speedAfter, acted};
+ghost use Rattle.element_control.specs.Control.{selected, controlOf, offending};
 
 // In the number that four bytes say.
 const SELECT: u32 = 0x80000000;

@@ -1,11 +1,11 @@
--- `element::control::Control::of` meets its contract. Assumes nothing.
+-- `element_control::Control::of` meets its contract. Assumes nothing.
 use mathlib.Core.Path.{sym, ap, _∙_}
 use Rattle.bits.proofs.Logic.{pick-yes, pick-no}
 use Rattle.element.specs.Settings.{settingsOf}
-use Rattle.element.specs.Control.{selected, unselected, requesting, controlOf}
+use Rattle.element_control.specs.Control.{selected, unselected, requesting, controlOf}
 use borrow.Author.Needs.{needs}
-use Rattle.element.proofs.control.Control.of.Statement.{statement}
-use Rattle.element.proofs.control.Control.of.Tie as tie
+use Rattle.element_control.proofs.Control.of.Statement.{statement}
+use Rattle.element_control.proofs.Control.of.Tie as tie
 
 returns : tie.Need-returns
 unfolding controlOf

@@ -7,12 +7,13 @@ use lib.Dec.{eqb}
 use lib.ListN.{length}
 use Rattle.bits.specs.Choice.{pick}
 use Rattle.bits.proofs.Logic.{and-left, pick-yes, pick-no}
 use Rattle.element.specs.declared.types.Kind.{Kind}
 use Rattle.element.specs.declared.settings.Settings.{Settings}
-use Rattle.element.specs.declared.control.Control.{Control}
+use Rattle.element_control.specs.declared.Control.{Control}
 use Rattle.element.specs.Settings.{settingsOf, settingsBytes, settingsFormed}
-use Rattle.element.specs.Control.{selected, unselected, requesting, controlOf, chosen, speedAfter, acted, settled}
+use Rattle.element.specs.Requests.{speedAfter, acted}
+use Rattle.element_control.specs.Control.{selected, unselected, requesting, controlOf, chosen, settled}
 use Rattle.element.proofs.StoredSettings.{Storable, length-bytes, settings-back, settings-storable, acted-storable, acted-formed}
 
 swap-twice : (s r : Bool) → (s && not r) && not r ≡ s && not r
 swap-twice true true = refl

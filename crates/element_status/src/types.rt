@@ -4,7 +4,6 @@ use element::settings;
 use element::settings::Settings;
 use element::types::Kind;
 use element::verdict::Verdict;
-use element_verdict::thresholds;
 use element_verdict::verdict;
 ghost use mathlib.Core.Path.{_≡_};
 ghost use mathlib.Core.List.{[], _∷_};
@@ -32,8 +31,8 @@ fn formed_as(kind: Kind, stored: [u8; 4], t: [u8; 4], reading: u16, nominal: u16
     ensures { λ r. ⌜ r ≡ fieldsFormed kind stored t reading nominal ⌝ }
 {
     settings::are_formed(kind, stored)
-        & thresholds::are_had(kind, t)
-        & thresholds::are_ordered(kind, t)
+        & element_thresholds::are_had(kind, t)
+        & element_thresholds::are_ordered(kind, t)
         & kind.may_read(reading)
         & kind.may_have_nominal(nominal)
 }

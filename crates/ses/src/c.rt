@@ -5,11 +5,11 @@ ghost use Rattle.configuration_page.specs.Page.{configurationPage};
 ghost use Rattle.configuration_page.specs.Read.{configurationRead};
 ghost use Rattle.configuration_page.specs.Configuration.{configurationOf};
 ghost use Rattle.status_page.specs.Page.{statusPage};
-ghost use Rattle.status_page.specs.Read.{statusRead, statusRecord};
+ghost use Rattle.status_reading.specs.Read.{statusRead, statusRecord};
 ghost use Rattle.status_rewritten.specs.Rewritten as statusAgain;
 ghost use Rattle.threshold_page_in.specs.Page.{thresholdPage};
-ghost use Rattle.threshold_page_in.specs.Read.{thresholdRead, thresholdRecord};
-ghost use Rattle.threshold_page_in.specs.Rewritten as thresholdsAgain;
+ghost use Rattle.threshold_record.specs.Read.{thresholdRead, thresholdRecord};
+ghost use Rattle.threshold_record.specs.Rewritten as thresholdsAgain;
 ghost use Rattle.control_page.specs.Tests as control;
 ghost use Rattle.control_page.specs.Brought as controlled;
 ghost use Rattle.threshold_page_out.specs.Tests as thresholds;
@@ -74,7 +74,7 @@ pub extern "C" fn ses_read_status(
 pub extern "C" fn ses_read_thresholds(
     configuration: &[u8],
     page: &[u8],
-    fields: &mut [u8; threshold_page_in::reading::LENGTH],
+    fields: &mut [u8; threshold_record::reading::LENGTH],
 ) -> u8
     ensures { λ r. ⌜ HandsBackForC (thresholdRead (now (configuration .entry)) (now (page .entry))) (thresholdRecord (now (configuration .entry)) (now (page .entry))) (now (fields .entry)) r (now (fields .exit)) ⌝ }
 {
@@ -111,7 +111,7 @@ pub extern "C" fn ses_rewrite_status(
 #[no_mangle]
 pub extern "C" fn ses_rewrite_thresholds(
     configuration: &[u8],
-    fields: &[u8; threshold_page_in::reading::LENGTH],
+    fields: &[u8; threshold_record::reading::LENGTH],
     out: &mut [u8],
     written: &mut u32,
 ) -> u8

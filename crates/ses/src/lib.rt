@@ -16,11 +16,11 @@ ghost use Rattle.configuration_page.specs.Page.{configurationPage};
 ghost use Rattle.configuration_page.specs.Read.{configurationRead};
 ghost use Rattle.configuration_page.specs.Configuration.{configurationOf};
 ghost use Rattle.status_page.specs.Page.{statusPage};
-ghost use Rattle.status_page.specs.Read.{statusRead, statusRecord};
+ghost use Rattle.status_reading.specs.Read.{statusRead, statusRecord};
 ghost use Rattle.status_rewritten.specs.Rewritten as statusAgain;
 ghost use Rattle.threshold_page_in.specs.Page.{thresholdPage};
-ghost use Rattle.threshold_page_in.specs.Read.{thresholdRead, thresholdRecord};
-ghost use Rattle.threshold_page_in.specs.Rewritten as thresholdsAgain;
+ghost use Rattle.threshold_record.specs.Read.{thresholdRead, thresholdRecord};
+ghost use Rattle.threshold_record.specs.Rewritten as thresholdsAgain;
 ghost use Rattle.control_page.specs.Tests as control;
 ghost use Rattle.control_page.specs.Brought as controlled;
 ghost use Rattle.threshold_page_out.specs.Tests as thresholds;
@@ -68,17 +68,17 @@ pub fn read_status(
 ) -> Answer
     ensures { λ r. ⌜ HandsBack (statusRead (now (configuration .entry)) (now (page .entry))) (statusRecord (now (configuration .entry)) (now (page .entry))) (now (fields .entry)) r (now (fields .exit)) ⌝ }
 {
-    status_page::reading::read(configuration, page, fields)
+    status_reading::reading::read(configuration, page, fields)
 }
 
 pub fn read_thresholds(
     configuration: &[u8],
     page: &[u8],
-    fields: &mut [u8; threshold_page_in::reading::LENGTH],
+    fields: &mut [u8; threshold_record::reading::LENGTH],
 ) -> Answer
     ensures { λ r. ⌜ HandsBack (thresholdRead (now (configuration .entry)) (now (page .entry))) (thresholdRecord (now (configuration .entry)) (now (page .entry))) (now (fields .entry)) r (now (fields .exit)) ⌝ }
 {
-    threshold_page_in::reading::read(configuration, page, fields)
+    threshold_record::reading::read(configuration, page, fields)
 }
 
 // The `rewrite` calls write again what a reader handed back.
@@ -104,12 +104,12 @@ pub fn rewrite_status(
 
 pub fn rewrite_thresholds(
     configuration: &[u8],
-    fields: &[u8; threshold_page_in::reading::LENGTH],
+    fields: &[u8; threshold_record::reading::LENGTH],
     out: &mut [u8],
 ) -> Written
     ensures { λ r. ⌜ WritesPage (thresholdsAgain.recordTested (now (configuration .entry)) (now (fields .entry))) (thresholdsAgain.pageAgain (now (configuration .entry)) (now (fields .entry))) (now (out .entry)) r (now (out .exit)) ⌝ }
 {
-    threshold_page_in::rewriting::write(configuration, fields, out)
+    threshold_record::rewriting::write(configuration, fields, out)
 }
 
 // The `apply` calls act on the shelf in place, and on all of it or nothing.

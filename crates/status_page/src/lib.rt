@@ -1,3 +1,2 @@
-// The status page (02h): written from a shelf, and read.
-pub mod reading;
+// The status page (02h), written from a shelf.
 pub mod writing;

@@ -31,8 +31,8 @@ use Rattle.page.proofs.HeaderBothWays.{byte-small, length-tested, header-again}
 use Rattle.shelf_status.specs.ShelfStatus.{bitsByte}
 use Rattle.status_page.specs.Page.{slotBytes, slotRow, pageWith}
 use Rattle.status_record.specs.Entries.{entryAt, bitsAt, entriesIn}
-use Rattle.status_page.proofs.Refusals.{read-parts, shown-length}
-use Rattle.status_page.specs.Read.{slotOffending, offence, statusRead, slotShown, bitsOn, statusRecord}
+use Rattle.status_reading.proofs.Refusals.{read-parts, shown-length}
+use Rattle.status_reading.specs.Read.{slotOffending, offence, statusRead, slotShown, bitsOn, statusRecord}
 use Rattle.status_rewritten.specs.Rewritten.{slotMost, entryFormed, entriesFormed, entriesTested, recordTested, pageAgain}
 use Rattle.status_record.proofs.WholeRecord.{bits-back, bits-fine, count-back, entry-back}
 

@@ -1,4 +1,2 @@
 pub mod Loops
 pub mod Refusals
-pub mod ReadAndRewritten
-pub mod WrittenAndRead

@@ -1,3 +1,1 @@
 pub mod Page
-pub mod Read
-pub mod Rewritten

@@ -1,5 +1,4 @@
 // What a Threshold Out page makes of a shelf.
-use element_verdict::thresholds;
 use page::places;
 use page::places::Places;
 use shelf::elements;
@@ -17,7 +16,7 @@ pub fn taken_at(shelf: &[u8], page: &[u8], at: Places, j: u16) -> [u8; 4]
     requires { ⌜ HasSlots (now page) at ⌝ }
     ensures { λ r. ⌜ r ≡ takenAt (now (page .entry)) at (thresholdsAt (now (shelf .entry)) j) ⌝ }
 {
-    thresholds::taken(
+    element_thresholds::taken(
         bits::four_at(page, at.ownplace),
         bits::four_at(page, at.overallplace),
         elements::thresholds_at(shelf, j),

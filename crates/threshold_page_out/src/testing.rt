@@ -1,6 +1,5 @@
 // Which Threshold Out pages a shelf accepts.
 use crate::acting;
-use element_verdict::thresholds;
 use page::places;
 use page::places::Places;
 use refusals::Answer;
@@ -24,7 +23,7 @@ fn element_ordered(shelf: &[u8], page: &[u8], at: Places, j: u16) -> bool
     ensures { λ r. ⌜ r ≡ elementOrdered (now (shelf .entry)) (now (page .entry)) j ⌝ }
 {
     let kind = at.kind;
-    thresholds::are_ordered(kind, acting::taken_at(shelf, page, at, j))
+    element_thresholds::are_ordered(kind, acting::taken_at(shelf, page, at, j))
 }
 
 fn all_ordered(shelf: &[u8], page: &[u8]) -> bool

@@ -1,7 +1,6 @@
 // Rows of four threshold bytes in a block: the slots of a page, or the entries of a threshold record.
 //
 // The rows of a page and of a record are tested alike, so the tests take a block and the place where its rows start.
-use element_verdict::thresholds;
 use page::slots;
 use refusals::Answer;
 use refusals::Refusal;
@@ -63,7 +62,7 @@ pub fn all_had(configuration: &[u8], block: &[u8], start: u16, n: u16) -> bool
         let here = slots::run_to(configuration, run, i);
         run = here;
         let kind = here.kind;
-        if !thresholds::are_had(kind, row_at(block, start, i)) {
+        if !element_thresholds::are_had(kind, row_at(block, start, i)) {
             return false;
         }
         i += 1;
@@ -88,8 +87,8 @@ pub fn test(configuration: &[u8], block: &[u8], start: u16, n: u16) -> Answer
         if row_offending(here.overall, e) < 4 {
             return Answer::Refused(Refusal::NotAllowed);
         }
-        had = had & thresholds::are_had(kind, e);
-        ordered = ordered & thresholds::are_ordered(kind, e);
+        had = had & element_thresholds::are_had(kind, e);
+        ordered = ordered & element_thresholds::are_ordered(kind, e);
         i += 1;
     }
     if !had {

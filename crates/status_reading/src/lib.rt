@@ -1,0 +1,2 @@
+// The status page (02h) read, under a configuration.
+pub mod reading;

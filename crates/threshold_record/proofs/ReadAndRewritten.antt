@@ -1,0 +1,83 @@
+-- A Threshold In page that was accepted is written again as the same bytes. Assumes nothing.
+use mathlib.Core.Path.{_≡_, sym, ap, ap₂, _∙_}
+use mathlib.Core.Bool.{true}
+use mathlib.Core.List.{List, [], _∷_, _++_, append-assoc}
+use Prim.Native.Nat.{ℕ, _+_, _*_, _<_, _≤_}
+use native.Mathlib.Omega.{arith}
+use lib.ListN.{length, getD, drop, take-append-drop, length-drop}
+use lib.Seq.{getD-append-add, take-all}
+use borrow.Author.Tests.{eq-eqb}
+use Rattle.bits.specs.Rows.{oneAt, bytesAt}
+use Rattle.bits.specs.Numbers.{Bytes}
+use Rattle.bits.proofs.Widths.{big-bytes}
+use Rattle.bits.proofs.Rows.{joined-same, bytes-there, bytes-get}
+use Rattle.refusals.specs.declared.Answer.the-variants.{Accepted}
+use Rattle.shelf.specs.Limits.{mostTypes, mostElements}
+use Rattle.shelf_formed.specs.Formed.{configurationFormed}
+use Rattle.page.specs.Slots.{slotsOf}
+use Rattle.page.specs.Header.{headed}
+use Rattle.page.proofs.SlotBounds.{configuration-front, slots-bound}
+use Rattle.page.proofs.HeaderBothWays.{length-tested, header-again}
+use Rattle.threshold_rows.proofs.RowTests.{Fine, rows-fine, fine-rows, fine-by}
+use Rattle.threshold_rows.specs.Rows.{onPage, inRecord, rowPlace, rowAt, rowsTested}
+use Rattle.threshold_record.specs.Read.{recordHead, thresholdRead, thresholdRecord}
+use Rattle.threshold_record.specs.Rewritten.{entriesIn, entriesTested, recordTested, pageAgain}
+use Rattle.threshold_record.proofs.Refusals.{read-parts}
+
+-- a record's entries are the page's slots, whatever stands behind them
+module _ (p rest : List ℕ) (n : ℕ) where
+  abbrev told : List ℕ
+  told = recordHead n ++ bytesAt p onPage (4 * n) ++ rest
+
+  get : (j : ℕ) → j < 4 * n → getD told (inRecord + j) 0 ≡ getD p (onPage + j) 0
+  get j l =
+      ap (λ (o : List ℕ). getD o (inRecord + j) 0) (append-assoc (recordHead n) (bytesAt p onPage (4 * n)) rest)
+      ∙ getD-append-add (recordHead n) (bytesAt p onPage (4 * n) ++ rest) j 0
+      ∙ bytes-get p onPage (4 * n) j rest l
+
+  count-back : n < 65536 → entriesIn told ≡ n
+  count-back l = big-bytes 2 n (omega arith)
+
+  row-back : (i : ℕ) → i < n → rowAt told inRecord i ≡ rowAt p onPage i
+  row-back i l = rw (get (4 * i) (omega arith), at 1 (omega arith), at 2 (omega arith), at 3 (omega arith))
+    where
+      at : (j : ℕ) → j < 4 → getD told (rowPlace inRecord i + j) 0 ≡ getD p (rowPlace onPage i + j) 0
+      at j b =
+          let x : rowPlace inRecord i + j ≡ inRecord + (4 * i + j) = omega arith in
+          let y : onPage + (4 * i + j) ≡ rowPlace onPage i + j = omega arith in
+          ap (λ (m : ℕ). getD told m 0) x ∙ get (4 * i + j) (omega arith) ∙ ap (λ (m : ℕ). getD p m 0) y
+
+  slots-back : bytesAt told inRecord (4 * n) ≡ bytesAt p onPage (4 * n)
+  unfolding bytesAt
+  slots-back = joined-same (oneAt told inRecord) (oneAt p onPage) (4 * n) (λ j l. ap (λ (x : ℕ). x ∷ []) (get j l))
+
+-- writing again what an accepted reading gave, whatever stands behind it
+module _ (c p rest : List ℕ) (a : thresholdRead c p ≡ Accepted) where
+  passed : (configurationFormed c ≡ true) × (headed c p 0x05 (slotsOf c) ≡ Accepted) × (getD p 1 0 ≡ 0) × (rowsTested c p onPage (slotsOf c) ≡ Accepted)
+  passed = read-parts c p a
+
+  few : slotsOf c ≤ mostTypes + mostElements
+  few = slots-bound c (configuration-front c (passed .0))
+
+  abbrev record-told : List ℕ
+  record-told = thresholdRecord c p ++ rest
+
+  entry-fine : (i : ℕ) → i < slotsOf c → Fine c record-told inRecord i
+  unfolding thresholdRecord
+  entry-fine i l = fine-by c record-told p inRecord onPage i (row-back p rest (slotsOf c) i l) (rows-fine c p onPage (slotsOf c) (passed .3) i l)
+
+  pub tested-again : recordTested c record-told ≡ Accepted
+  unfolding recordTested entriesTested thresholdRecord
+  tested-again =
+      let n : entriesIn record-told ≡ slotsOf c = count-back p rest (slotsOf c) (omega (arith, few)) in
+      rw (passed .0, eq-eqb (entriesIn record-told) (slotsOf c) n) (fine-rows c record-told inRecord (slotsOf c) entry-fine)
+
+  pub page-again : Bytes c → Bytes p → pageAgain c record-told ≡ p
+  unfolding pageAgain thresholdRecord
+  page-again hc hp =
+      let n = slotsOf c in
+      let e = length-tested c p 0x05 n (passed .1) in
+      let l : length (drop 8 p) ≤ 4 * n = rw (length-drop 8 p) (omega (arith, e)) in
+      ap₂ _++_ (header-again c p 0x05 n (passed .1) 0 hc hp (sym (passed .2)))
+      (slots-back p rest n ∙ bytes-there p onPage (4 * n) (omega (arith, e)) ∙ take-all (4 * n) (drop 8 p) l)
+      ∙ take-append-drop 8 p

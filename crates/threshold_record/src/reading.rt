@@ -1,0 +1,90 @@
+// The page read, under a configuration.
+use page::header;
+use page::slots;
+use page::testing;
+use refusals::Answer;
+use refusals::Refusal;
+use refusals::Tested;
+use shelf::limits;
+use threshold_page_in::writing;
+ghost use mathlib.Core.Path.{_≡_};
+ghost use Prim.Native.Nat.{_≤_};
+ghost use lib.ListN.{length};
+ghost use Rattle.refusals.specs.declared.Answer.the-variants.{Accepted};
+ghost use Rattle.refusals.specs.Outcomes.{placed, HandsBack};
+ghost use Rattle.shelf_formed.specs.Formed.{HasFront};
+ghost use Rattle.page.specs.Slots.{slotsOf};
+ghost use Rattle.threshold_rows.specs.Rows.{onPage, HasRows};
+ghost use Rattle.threshold_record.specs.Read.{headPut, bytesTested, thresholdTested, thresholdRead, thresholdRecord};
+
+// A threshold record has room for an entry of each slot.
+pub const LENGTH: usize = 4 + 4 * limits::MOST_SLOTS as usize;
+
+// Two bytes that hold nothing, and the number of entries.
+fn put_head(fields: &mut [u8], n: u16)
+    requires { ⌜ 4 ≤ length (now fields) ⌝ }
+    ensures { λ _. ⌜ now (fields .exit) ≡ headPut (now (fields .entry)) n ⌝ }
+{
+    bits::put_four(fields, 0, [0, 0, (n / 256 % 256) as u8, (n % 256) as u8]);
+}
+
+// The page's own tests.
+fn test_bytes(configuration: &[u8], page: &[u8], n: u16) -> Answer
+    requires { ⌜ HasRows (now configuration) (now page) onPage n ⌝ }
+    ensures { λ r. ⌜ r ≡ bytesTested (now (configuration .entry)) (now (page .entry)) n ⌝ }
+{
+    if bits::byte_at(page, 1) != 0 {
+        return Answer::Refused(Refusal::NotAllowed);
+    }
+    threshold_rows::test(configuration, page, threshold_rows::ON_PAGE, n)
+}
+
+// A page of n slots, its header and then its bytes.
+fn test_page(configuration: &[u8], page: &[u8], n: u16) -> Answer
+    requires { ⌜ HasFront (now configuration) ⌝ }
+    requires { ⌜ n ≤ slotsOf (now configuration) ⌝ }
+    ensures { λ r. ⌜ r ≡ thresholdTested (now (configuration .entry)) (now (page .entry)) n ⌝ }
+{
+    let head = header::test(configuration, page, writing::CODE, n);
+    let Answer::Accepted = head else {
+        return head;
+    };
+    test_bytes(configuration, page, n)
+}
+
+pub fn test(configuration: &[u8], page: &[u8]) -> Answer
+    ensures { λ r. ⌜ r ≡ thresholdRead (now (configuration .entry)) (now (page .entry)) ⌝ }
+{
+    let configured = testing::configuration_slots(configuration);
+    let Tested::Slots(n) = configured else {
+        return configured.answer();
+    };
+    test_page(configuration, page, n)
+}
+
+// The record that an accepted page tells.
+fn hand_over(configuration: &[u8], page: &[u8], fields: &mut [u8; LENGTH])
+    requires { ⌜ thresholdRead (now configuration) (now page) ≡ Accepted ⌝ }
+    ensures { λ _. ⌜ now (fields .exit) ≡ placed (thresholdRecord (now (configuration .entry)) (now (page .entry))) (now (fields .entry)) ⌝ }
+{
+    let n = slots::count(configuration);
+    put_head(fields, n);
+    bits::copy(
+        page,
+        threshold_rows::ON_PAGE as u32,
+        fields,
+        threshold_rows::IN_RECORD as u32,
+        4 * n as u32,
+    );
+}
+
+pub fn read(configuration: &[u8], page: &[u8], fields: &mut [u8; LENGTH]) -> Answer
+    ensures { λ r. ⌜ HandsBack (thresholdRead (now (configuration .entry)) (now (page .entry))) (thresholdRecord (now (configuration .entry)) (now (page .entry))) (now (fields .entry)) r (now (fields .exit)) ⌝ }
+{
+    let tested = test(configuration, page);
+    let Answer::Accepted = tested else {
+        return tested;
+    };
+    hand_over(configuration, page, fields);
+    tested
+}

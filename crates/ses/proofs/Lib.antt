@@ -1,1 +1,2 @@
 pub mod ForC
+pub mod StatusRewritten

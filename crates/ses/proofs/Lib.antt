@@ -1,2 +1,4 @@
-pub mod ForC
+pub mod Fronts
 pub mod StatusRewritten
+pub mod NoTwoOutcomes
+pub mod ReadAndRewritten

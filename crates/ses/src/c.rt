@@ -1,30 +1,17 @@
 // The public calls for C: a refusal is told by its number, bytes written through a reference.
 use shelf::limits;
-ghost use Rattle.page.specs.Header.{shelfTested, configurationTested};
-ghost use Rattle.configuration_page.specs.Page.{configurationPage};
-ghost use Rattle.configuration_page.specs.Read.{configurationRead};
-ghost use Rattle.configuration_page.specs.Configuration.{configurationOf};
-ghost use Rattle.status_page.specs.Page.{statusPage};
-ghost use Rattle.status_reading.specs.Read.{statusRead, statusRecord};
-ghost use Rattle.status_rewritten.specs.Rewritten as statusAgain;
-ghost use Rattle.threshold_page_in.specs.Page.{thresholdPage};
-ghost use Rattle.threshold_record.specs.Read.{thresholdRead, thresholdRecord};
-ghost use Rattle.threshold_record.specs.Rewritten as thresholdsAgain;
-ghost use Rattle.control_page.specs.Tests as control;
-ghost use Rattle.control_page.specs.Brought as controlled;
-ghost use Rattle.threshold_page_out.specs.Tests as thresholds;
-ghost use Rattle.ses.specs.Calls.{AnswersForC, WritesForC, HandsBackForC, ChangesForC, BuiltForC};
+ghost use Rattle.ses.specs.PromisesForC.{CheckForC, WriteConfigurationForC, WriteStatusForC, WriteThresholdsForC, ReadConfigurationForC, ReadStatusForC, ReadThresholdsForC, RewriteConfigurationForC, RewriteStatusForC, RewriteThresholdsForC, ApplyControlForC, ApplyThresholdsForC, BuildControlForC};
 
 #[no_mangle]
 pub extern "C" fn ses_check(shelf: &[u8]) -> u8
-    ensures { λ r. ⌜ AnswersForC (shelfTested (now (shelf .entry))) r ⌝ }
+    ensures { λ r. ⌜ CheckForC (now (shelf .entry)) r ⌝ }
 {
     crate::check(shelf).number()
 }
 
 #[no_mangle]
 pub extern "C" fn ses_write_configuration(shelf: &[u8], out: &mut [u8], written: &mut u32) -> u8
-    ensures { λ r. ⌜ WritesForC (shelfTested (now (shelf .entry))) (configurationPage (now (shelf .entry))) (now (out .entry)) r (now (written .exit)) (now (out .exit)) ⌝ }
+    ensures { λ r. ⌜ WriteConfigurationForC (now (shelf .entry)) (now (out .entry)) r (now (out .exit)) (now (written .exit)) ⌝ }
 {
     let answer = crate::write_configuration(shelf, out);
     *written = answer.bytes();
@@ -33,7 +20,7 @@ pub extern "C" fn ses_write_configuration(shelf: &[u8], out: &mut [u8], written:
 
 #[no_mangle]
 pub extern "C" fn ses_write_status(shelf: &[u8], out: &mut [u8], written: &mut u32) -> u8
-    ensures { λ r. ⌜ WritesForC (shelfTested (now (shelf .entry))) (statusPage (now (shelf .entry))) (now (out .entry)) r (now (written .exit)) (now (out .exit)) ⌝ }
+    ensures { λ r. ⌜ WriteStatusForC (now (shelf .entry)) (now (out .entry)) r (now (out .exit)) (now (written .exit)) ⌝ }
 {
     let answer = crate::write_status(shelf, out);
     *written = answer.bytes();
@@ -42,7 +29,7 @@ pub extern "C" fn ses_write_status(shelf: &[u8], out: &mut [u8], written: &mut u
 
 #[no_mangle]
 pub extern "C" fn ses_write_thresholds(shelf: &[u8], out: &mut [u8], written: &mut u32) -> u8
-    ensures { λ r. ⌜ WritesForC (shelfTested (now (shelf .entry))) (thresholdPage (now (shelf .entry))) (now (out .entry)) r (now (written .exit)) (now (out .exit)) ⌝ }
+    ensures { λ r. ⌜ WriteThresholdsForC (now (shelf .entry)) (now (out .entry)) r (now (out .exit)) (now (written .exit)) ⌝ }
 {
     let answer = crate::write_thresholds(shelf, out);
     *written = answer.bytes();
@@ -54,7 +41,7 @@ pub extern "C" fn ses_read_configuration(
     page: &[u8],
     configuration: &mut [u8; limits::CONFIGURATION],
 ) -> u8
-    ensures { λ r. ⌜ HandsBackForC (configurationRead (now (page .entry))) (configurationOf (now (page .entry))) (now (configuration .entry)) r (now (configuration .exit)) ⌝ }
+    ensures { λ r. ⌜ ReadConfigurationForC (now (page .entry)) (now (configuration .entry)) r (now (configuration .exit)) ⌝ }
 {
     crate::read_configuration(page, configuration).number()
 }
@@ -65,7 +52,7 @@ pub extern "C" fn ses_read_status(
     page: &[u8],
     fields: &mut [u8; status_record::LENGTH],
 ) -> u8
-    ensures { λ r. ⌜ HandsBackForC (statusRead (now (configuration .entry)) (now (page .entry))) (statusRecord (now (configuration .entry)) (now (page .entry))) (now (fields .entry)) r (now (fields .exit)) ⌝ }
+    ensures { λ r. ⌜ ReadStatusForC (now (configuration .entry)) (now (page .entry)) (now (fields .entry)) r (now (fields .exit)) ⌝ }
 {
     crate::read_status(configuration, page, fields).number()
 }
@@ -76,7 +63,7 @@ pub extern "C" fn ses_read_thresholds(
     page: &[u8],
     fields: &mut [u8; threshold_record::reading::LENGTH],
 ) -> u8
-    ensures { λ r. ⌜ HandsBackForC (thresholdRead (now (configuration .entry)) (now (page .entry))) (thresholdRecord (now (configuration .entry)) (now (page .entry))) (now (fields .entry)) r (now (fields .exit)) ⌝ }
+    ensures { λ r. ⌜ ReadThresholdsForC (now (configuration .entry)) (now (page .entry)) (now (fields .entry)) r (now (fields .exit)) ⌝ }
 {
     crate::read_thresholds(configuration, page, fields).number()
 }
@@ -87,7 +74,7 @@ pub extern "C" fn ses_rewrite_configuration(
     out: &mut [u8],
     written: &mut u32,
 ) -> u8
-    ensures { λ r. ⌜ WritesForC (configurationTested (now (configuration .entry))) (configurationPage (now (configuration .entry))) (now (out .entry)) r (now (written .exit)) (now (out .exit)) ⌝ }
+    ensures { λ r. ⌜ RewriteConfigurationForC (now (configuration .entry)) (now (out .entry)) r (now (out .exit)) (now (written .exit)) ⌝ }
 {
     let answer = crate::rewrite_configuration(configuration, out);
     *written = answer.bytes();
@@ -101,7 +88,7 @@ pub extern "C" fn ses_rewrite_status(
     out: &mut [u8],
     written: &mut u32,
 ) -> u8
-    ensures { λ r. ⌜ WritesForC (statusAgain.recordTested (now (configuration .entry)) (now (fields .entry))) (statusAgain.pageAgain (now (configuration .entry)) (now (fields .entry))) (now (out .entry)) r (now (written .exit)) (now (out .exit)) ⌝ }
+    ensures { λ r. ⌜ RewriteStatusForC (now (configuration .entry)) (now (fields .entry)) (now (out .entry)) r (now (out .exit)) (now (written .exit)) ⌝ }
 {
     let answer = crate::rewrite_status(configuration, fields, out);
     *written = answer.bytes();
@@ -115,7 +102,7 @@ pub extern "C" fn ses_rewrite_thresholds(
     out: &mut [u8],
     written: &mut u32,
 ) -> u8
-    ensures { λ r. ⌜ WritesForC (thresholdsAgain.recordTested (now (configuration .entry)) (now (fields .entry))) (thresholdsAgain.pageAgain (now (configuration .entry)) (now (fields .entry))) (now (out .entry)) r (now (written .exit)) (now (out .exit)) ⌝ }
+    ensures { λ r. ⌜ RewriteThresholdsForC (now (configuration .entry)) (now (fields .entry)) (now (out .entry)) r (now (out .exit)) (now (written .exit)) ⌝ }
 {
     let answer = crate::rewrite_thresholds(configuration, fields, out);
     *written = answer.bytes();
@@ -124,14 +111,14 @@ pub extern "C" fn ses_rewrite_thresholds(
 
 #[no_mangle]
 pub extern "C" fn ses_apply_control(shelf: &mut [u8], page: &[u8]) -> u8
-    ensures { λ r. ⌜ ChangesForC (control.controlTested (now (shelf .entry)) (now (page .entry))) (controlled.after (now (shelf .entry)) (now (page .entry))) r (now (shelf .exit)) ⌝ }
+    ensures { λ r. ⌜ ApplyControlForC (now (shelf .entry)) (now (page .entry)) r (now (shelf .exit)) ⌝ }
 {
     crate::apply_control(shelf, page).number()
 }
 
 #[no_mangle]
 pub extern "C" fn ses_apply_thresholds(shelf: &mut [u8], page: &[u8]) -> u8
-    ensures { λ r. ⌜ ChangesForC (thresholds.thresholdsTested (now (shelf .entry)) (now (page .entry))) (thresholds.after (now (shelf .entry)) (now (page .entry))) r (now (shelf .exit)) ⌝ }
+    ensures { λ r. ⌜ ApplyThresholdsForC (now (shelf .entry)) (now (page .entry)) r (now (shelf .exit)) ⌝ }
 {
     crate::apply_thresholds(shelf, page).number()
 }
@@ -144,7 +131,7 @@ pub extern "C" fn ses_build_control(
     written: &mut u32,
     selects: &mut u32,
 ) -> u8
-    ensures { λ r. ⌜ BuiltForC (now (shelf .entry)) (now (wanted .entry)) (now (out .entry)) r (now (written .exit)) (now (selects .exit)) (now (out .exit)) ⌝ }
+    ensures { λ r. ⌜ BuildControlForC (now (shelf .entry)) (now (wanted .entry)) (now (out .entry)) r (now (out .exit)) (now (written .exit)) (now (selects .exit)) ⌝ }
 {
     let built = crate::build_control(shelf, wanted, out);
     *written = built.bytes();

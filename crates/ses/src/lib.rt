@@ -9,32 +9,17 @@ use refusals::Answer;
 use refusals::Tested;
 use refusals::Written;
 use shelf::limits;
-ghost use mathlib.Core.Path.{_≡_};
-ghost use Rattle.refusals.specs.Outcomes.{WritesPage, HandsBack, Changes};
-ghost use Rattle.page.specs.Header.{shelfTested, configurationTested};
-ghost use Rattle.configuration_page.specs.Page.{configurationPage};
-ghost use Rattle.configuration_page.specs.Read.{configurationRead};
-ghost use Rattle.configuration_page.specs.Configuration.{configurationOf};
-ghost use Rattle.status_page.specs.Page.{statusPage};
-ghost use Rattle.status_reading.specs.Read.{statusRead, statusRecord};
-ghost use Rattle.status_rewritten.specs.Rewritten as statusAgain;
-ghost use Rattle.threshold_page_in.specs.Page.{thresholdPage};
-ghost use Rattle.threshold_record.specs.Read.{thresholdRead, thresholdRecord};
-ghost use Rattle.threshold_record.specs.Rewritten as thresholdsAgain;
-ghost use Rattle.control_page.specs.Tests as control;
-ghost use Rattle.control_page.specs.Brought as controlled;
-ghost use Rattle.threshold_page_out.specs.Tests as thresholds;
-ghost use Rattle.build_page.specs.Promise.{Promised};
+ghost use Rattle.ses.specs.Promises.{Check, WriteConfiguration, WriteStatus, WriteThresholds, ReadConfiguration, ReadStatus, ReadThresholds, RewriteConfiguration, RewriteStatus, RewriteThresholds, ApplyControl, ApplyThresholds, BuildControl};
 
 // Is this block a well-formed shelf?
 pub fn check(shelf: &[u8]) -> Answer
-    ensures { λ r. ⌜ r ≡ shelfTested (now (shelf .entry)) ⌝ }
+    ensures { λ r. ⌜ Check (now (shelf .entry)) r ⌝ }
 {
     testing::shelf(shelf)
 }
 
 pub fn write_configuration(shelf: &[u8], out: &mut [u8]) -> Written
-    ensures { λ r. ⌜ WritesPage (shelfTested (now (shelf .entry))) (configurationPage (now (shelf .entry))) (now (out .entry)) r (now (out .exit)) ⌝ }
+    ensures { λ r. ⌜ WriteConfiguration (now (shelf .entry)) (now (out .entry)) r (now (out .exit)) ⌝ }
 {
     let tested = testing::shelf_slots(shelf);
     let Tested::Slots(_) = tested else {
@@ -44,19 +29,19 @@ pub fn write_configuration(shelf: &[u8], out: &mut [u8]) -> Written
 }
 
 pub fn write_status(shelf: &[u8], out: &mut [u8]) -> Written
-    ensures { λ r. ⌜ WritesPage (shelfTested (now (shelf .entry))) (statusPage (now (shelf .entry))) (now (out .entry)) r (now (out .exit)) ⌝ }
+    ensures { λ r. ⌜ WriteStatus (now (shelf .entry)) (now (out .entry)) r (now (out .exit)) ⌝ }
 {
     status_page::writing::write(shelf, out)
 }
 
 pub fn write_thresholds(shelf: &[u8], out: &mut [u8]) -> Written
-    ensures { λ r. ⌜ WritesPage (shelfTested (now (shelf .entry))) (thresholdPage (now (shelf .entry))) (now (out .entry)) r (now (out .exit)) ⌝ }
+    ensures { λ r. ⌜ WriteThresholds (now (shelf .entry)) (now (out .entry)) r (now (out .exit)) ⌝ }
 {
     threshold_page_in::writing::write(shelf, out)
 }
 
 pub fn read_configuration(page: &[u8], configuration: &mut [u8; limits::CONFIGURATION]) -> Answer
-    ensures { λ r. ⌜ HandsBack (configurationRead (now (page .entry))) (configurationOf (now (page .entry))) (now (configuration .entry)) r (now (configuration .exit)) ⌝ }
+    ensures { λ r. ⌜ ReadConfiguration (now (page .entry)) (now (configuration .entry)) r (now (configuration .exit)) ⌝ }
 {
     configuration_page::reading::read(page, configuration)
 }
@@ -66,7 +51,7 @@ pub fn read_status(
     page: &[u8],
     fields: &mut [u8; status_record::LENGTH],
 ) -> Answer
-    ensures { λ r. ⌜ HandsBack (statusRead (now (configuration .entry)) (now (page .entry))) (statusRecord (now (configuration .entry)) (now (page .entry))) (now (fields .entry)) r (now (fields .exit)) ⌝ }
+    ensures { λ r. ⌜ ReadStatus (now (configuration .entry)) (now (page .entry)) (now (fields .entry)) r (now (fields .exit)) ⌝ }
 {
     status_reading::reading::read(configuration, page, fields)
 }
@@ -76,14 +61,14 @@ pub fn read_thresholds(
     page: &[u8],
     fields: &mut [u8; threshold_record::reading::LENGTH],
 ) -> Answer
-    ensures { λ r. ⌜ HandsBack (thresholdRead (now (configuration .entry)) (now (page .entry))) (thresholdRecord (now (configuration .entry)) (now (page .entry))) (now (fields .entry)) r (now (fields .exit)) ⌝ }
+    ensures { λ r. ⌜ ReadThresholds (now (configuration .entry)) (now (page .entry)) (now (fields .entry)) r (now (fields .exit)) ⌝ }
 {
     threshold_record::reading::read(configuration, page, fields)
 }
 
 // The `rewrite` calls write again what a reader handed back.
 pub fn rewrite_configuration(configuration: &[u8], out: &mut [u8]) -> Written
-    ensures { λ r. ⌜ WritesPage (configurationTested (now (configuration .entry))) (configurationPage (now (configuration .entry))) (now (out .entry)) r (now (out .exit)) ⌝ }
+    ensures { λ r. ⌜ RewriteConfiguration (now (configuration .entry)) (now (out .entry)) r (now (out .exit)) ⌝ }
 {
     let tested = testing::configuration_slots(configuration);
     let Tested::Slots(_) = tested else {
@@ -97,7 +82,7 @@ pub fn rewrite_status(
     fields: &[u8; status_record::LENGTH],
     out: &mut [u8],
 ) -> Written
-    ensures { λ r. ⌜ WritesPage (statusAgain.recordTested (now (configuration .entry)) (now (fields .entry))) (statusAgain.pageAgain (now (configuration .entry)) (now (fields .entry))) (now (out .entry)) r (now (out .exit)) ⌝ }
+    ensures { λ r. ⌜ RewriteStatus (now (configuration .entry)) (now (fields .entry)) (now (out .entry)) r (now (out .exit)) ⌝ }
 {
     status_rewritten::write(configuration, fields, out)
 }
@@ -107,27 +92,27 @@ pub fn rewrite_thresholds(
     fields: &[u8; threshold_record::reading::LENGTH],
     out: &mut [u8],
 ) -> Written
-    ensures { λ r. ⌜ WritesPage (thresholdsAgain.recordTested (now (configuration .entry)) (now (fields .entry))) (thresholdsAgain.pageAgain (now (configuration .entry)) (now (fields .entry))) (now (out .entry)) r (now (out .exit)) ⌝ }
+    ensures { λ r. ⌜ RewriteThresholds (now (configuration .entry)) (now (fields .entry)) (now (out .entry)) r (now (out .exit)) ⌝ }
 {
     threshold_record::rewriting::write(configuration, fields, out)
 }
 
 // The `apply` calls act on the shelf in place, and on all of it or nothing.
 pub fn apply_control(shelf: &mut [u8], page: &[u8]) -> Answer
-    ensures { λ r. ⌜ Changes (control.controlTested (now (shelf .entry)) (now (page .entry))) (controlled.after (now (shelf .entry)) (now (page .entry))) r (now (shelf .exit)) ⌝ }
+    ensures { λ r. ⌜ ApplyControl (now (shelf .entry)) (now (page .entry)) r (now (shelf .exit)) ⌝ }
 {
     control_page::apply(shelf, page)
 }
 
 pub fn apply_thresholds(shelf: &mut [u8], page: &[u8]) -> Answer
-    ensures { λ r. ⌜ Changes (thresholds.thresholdsTested (now (shelf .entry)) (now (page .entry))) (thresholds.after (now (shelf .entry)) (now (page .entry))) r (now (shelf .exit)) ⌝ }
+    ensures { λ r. ⌜ ApplyThresholds (now (shelf .entry)) (now (page .entry)) r (now (shelf .exit)) ⌝ }
 {
     threshold_page_out::apply(shelf, page)
 }
 
 // The control page that brings the shelf to the wanted settings: four bytes for each element, as the shelf stores them.
 pub fn build_control(shelf: &[u8], wanted: &[u8], out: &mut [u8]) -> Built
-    ensures { λ r. ⌜ Promised (now (shelf .entry)) (now (wanted .entry)) (now (out .entry)) r (now (out .exit)) ⌝ }
+    ensures { λ r. ⌜ BuildControl (now (shelf .entry)) (now (wanted .entry)) (now (out .entry)) r (now (out .exit)) ⌝ }
 {
     build_page::build(shelf, wanted, out)
 }

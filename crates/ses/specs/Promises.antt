@@ -1,0 +1,75 @@
+-- What each public call promises, under the call's name: first what is lent, as it is at entry, then the answer r, then what is lent
+-- to be changed, as it is at exit. Assumes nothing.
+use mathlib.Core.Path.{_≡_}
+use mathlib.Core.List.{List}
+use Prim.Native.Nat.{ℕ}
+use Rattle.refusals.specs.declared.Answer.{Answer}
+use Rattle.refusals.specs.declared.Written.{Written}
+use Rattle.refusals.specs.Outcomes.{WritesPage, HandsBack, Changes}
+use Rattle.page.specs.Header.{shelfTested, configurationTested}
+use Rattle.configuration_page.specs.Page.{configurationPage}
+use Rattle.configuration_page.specs.Read.{configurationRead}
+use Rattle.configuration_page.specs.Configuration.{configurationOf}
+use Rattle.status_page.specs.Page.{statusPage}
+use Rattle.status_reading.specs.Read.{statusRead, statusRecord}
+use Rattle.status_rewritten.specs.Rewritten as statusAgain
+use Rattle.threshold_page_in.specs.Page.{thresholdPage}
+use Rattle.threshold_record.specs.Read.{thresholdRead, thresholdRecord}
+use Rattle.threshold_record.specs.Rewritten as thresholdsAgain
+use Rattle.control_page.specs.Tests as control
+use Rattle.control_page.specs.Brought as controlled
+use Rattle.threshold_page_out.specs.Tests as thresholds
+use Rattle.build_page.specs.declared.built.Built.{Built}
+use Rattle.build_page.specs.Promise.{Promised}
+
+-- accepted exactly if the block is a well-formed shelf, else 1
+abbrev pub Check : List ℕ → Answer → Type 0
+Check shelf r = r ≡ shelfTested shelf
+
+-- 1, 11; else the page of the shelf
+abbrev pub WriteConfiguration : List ℕ → List ℕ → Written → List ℕ → Type 0
+WriteConfiguration shelf out r o = WritesPage (shelfTested shelf) (configurationPage shelf) out r o
+
+abbrev pub WriteStatus : List ℕ → List ℕ → Written → List ℕ → Type 0
+WriteStatus shelf out r o = WritesPage (shelfTested shelf) (statusPage shelf) out r o
+
+abbrev pub WriteThresholds : List ℕ → List ℕ → Written → List ℕ → Type 0
+WriteThresholds shelf out r o = WritesPage (shelfTested shelf) (thresholdPage shelf) out r o
+
+-- 2, 3, 4, 6; else the configuration that the page tells
+abbrev pub ReadConfiguration : List ℕ → List ℕ → Answer → List ℕ → Type 0
+ReadConfiguration page old r o = HandsBack (configurationRead page) (configurationOf page) old r o
+
+-- 1 to 6; else the record of every shown field
+abbrev pub ReadStatus : List ℕ → List ℕ → List ℕ → Answer → List ℕ → Type 0
+ReadStatus configuration page old r o = HandsBack (statusRead configuration page) (statusRecord configuration page) old r o
+
+-- 1 to 8; else the record of the thresholds
+abbrev pub ReadThresholds : List ℕ → List ℕ → List ℕ → Answer → List ℕ → Type 0
+ReadThresholds configuration page old r o = HandsBack (thresholdRead configuration page) (thresholdRecord configuration page) old r o
+
+-- 1, 11; else the page that tells the configuration
+abbrev pub RewriteConfiguration : List ℕ → List ℕ → Written → List ℕ → Type 0
+RewriteConfiguration configuration out r o = WritesPage (configurationTested configuration) (configurationPage configuration) out r o
+
+-- 1, 9, 6, 11; else the page that shows the fields
+abbrev pub RewriteStatus : List ℕ → List ℕ → List ℕ → Written → List ℕ → Type 0
+RewriteStatus configuration fields out r o =
+    WritesPage (statusAgain.recordTested configuration fields) (statusAgain.pageAgain configuration fields) out r o
+
+-- 1, 9, 6, 7, 8, 11; else the page with these thresholds
+abbrev pub RewriteThresholds : List ℕ → List ℕ → List ℕ → Written → List ℕ → Type 0
+RewriteThresholds configuration fields out r o =
+    WritesPage (thresholdsAgain.recordTested configuration fields) (thresholdsAgain.pageAgain configuration fields) out r o
+
+-- 1 to 6; else the shelf with the settings that the page brings it to
+abbrev pub ApplyControl : List ℕ → List ℕ → Answer → List ℕ → Type 0
+ApplyControl shelf page r o = Changes (control.controlTested shelf page) (controlled.after shelf page) r o
+
+-- 1 to 8; else the shelf with the thresholds that the page brings it to
+abbrev pub ApplyThresholds : List ℕ → List ℕ → Answer → List ℕ → Type 0
+ApplyThresholds shelf page r o = Changes (thresholds.thresholdsTested shelf page) (thresholds.after shelf page) r o
+
+-- 1, 9, 10, 11; else the best page that reaches the wish
+abbrev pub BuildControl : List ℕ → List ℕ → List ℕ → Built → List ℕ → Type 0
+BuildControl shelf wanted out r o = Promised shelf wanted out r o

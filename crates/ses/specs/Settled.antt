@@ -1,0 +1,20 @@
+-- No two outcomes: what keeps a promise is one answer, with one content of all that is lent to be changed. Assumes nothing.
+use mathlib.Core.Path.{_≡_}
+use mathlib.Core.List.{List}
+use Prim.Native.Nat.{ℕ}
+
+-- of a call that is lent nothing to be changed
+abbrev pub OneAnswer : {R : Type 0} → (R → Type 0) → Type 0
+OneAnswer {R} P = (r q : R) → P r → P q → r ≡ q
+
+-- one buffer, a record or a shelf
+abbrev pub OneOutcome : {R : Type 0} → (R → List ℕ → Type 0) → Type 0
+OneOutcome {R} P = (r q : R) (y z : List ℕ) → P r y → P q z → (r ≡ q) × (y ≡ z)
+
+-- for C also the bytes written
+abbrev pub OneWritten : (ℕ → List ℕ → ℕ → Type 0) → Type 0
+OneWritten P = (n m : ℕ) (y z : List ℕ) (b c : ℕ) → P n y b → P m z c → (n ≡ m) × (y ≡ z) × (b ≡ c)
+
+-- and the SELECTs
+abbrev pub OneBuilt : (ℕ → List ℕ → ℕ → ℕ → Type 0) → Type 0
+OneBuilt P = (n m : ℕ) (y z : List ℕ) (b c k l : ℕ) → P n y b k → P m z c l → (n ≡ m) × (y ≡ z) × (b ≡ c) × (k ≡ l)

@@ -1,4 +1,1 @@
 pub mod Fronts
-pub mod StatusRewritten
-pub mod NoTwoOutcomes
-pub mod ReadAndRewritten

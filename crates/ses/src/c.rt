@@ -1,6 +1,6 @@
 // The public calls for C: a refusal is told by its number, bytes written through a reference.
 use shelf::limits;
-ghost use Rattle.ses.specs.PromisesForC.{CheckForC, WriteConfigurationForC, WriteStatusForC, WriteThresholdsForC, ReadConfigurationForC, ReadStatusForC, ReadThresholdsForC, RewriteConfigurationForC, RewriteStatusForC, RewriteThresholdsForC, ApplyControlForC, ApplyThresholdsForC, BuildControlForC};
+ghost use Rattle.promises.specs.PromisesForC.{CheckForC, WriteConfigurationForC, WriteStatusForC, WriteThresholdsForC, ReadConfigurationForC, ReadStatusForC, ReadThresholdsForC, RewriteConfigurationForC, RewriteStatusForC, RewriteThresholdsForC, ApplyControlForC, ApplyThresholdsForC, BuildControlForC};
 
 #[no_mangle]
 pub extern "C" fn ses_check(shelf: &[u8]) -> u8

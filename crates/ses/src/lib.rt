@@ -9,7 +9,7 @@ use refusals::Answer;
 use refusals::Tested;
 use refusals::Written;
 use shelf::limits;
-ghost use Rattle.ses.specs.Promises.{Check, WriteConfiguration, WriteStatus, WriteThresholds, ReadConfiguration, ReadStatus, ReadThresholds, RewriteConfiguration, RewriteStatus, RewriteThresholds, ApplyControl, ApplyThresholds, BuildControl};
+ghost use Rattle.promises.specs.Promises.{Check, WriteConfiguration, WriteStatus, WriteThresholds, ReadConfiguration, ReadStatus, ReadThresholds, RewriteConfiguration, RewriteStatus, RewriteThresholds, ApplyControl, ApplyThresholds, BuildControl};
 
 // Is this block a well-formed shelf?
 pub fn check(shelf: &[u8]) -> Answer

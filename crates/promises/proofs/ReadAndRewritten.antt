@@ -22,9 +22,9 @@ use Rattle.status_rewritten.specs.Rewritten as statusAgain
 use Rattle.threshold_record.specs.Read.{thresholdRead, thresholdRecord}
 use Rattle.threshold_record.specs.Rewritten as thresholdsAgain
 use Rattle.threshold_record.proofs.ReadAndRewritten as thresholds
-use Rattle.ses.specs.Promises.{ReadConfiguration, ReadStatus, ReadThresholds, RewriteConfiguration, RewriteStatus, RewriteThresholds}
-use Rattle.ses.specs.Demands.{WrittenAgain}
-use Rattle.ses.proofs.StatusRewritten as status
+use Rattle.promises.specs.Promises.{ReadConfiguration, ReadStatus, ReadThresholds, RewriteConfiguration, RewriteStatus, RewriteThresholds}
+use Rattle.promises.specs.Demands.{WrittenAgain}
+use Rattle.promises.proofs.StatusRewritten as status
 
 -- what an accepting reader leaves is the record, in the place that was lent
 handed : (a : Answer) (told old : List ℕ) {r : Answer} {f : List ℕ} → HandsBack a told old r f → r ≡ Accepted → (a ≡ Accepted) × (f ≡ placed told old)

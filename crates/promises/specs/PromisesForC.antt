@@ -8,7 +8,7 @@ use Rattle.refusals.specs.declared.Written.{Written}
 use Rattle.refusals.specs.Numbers.{answerNumber, writtenNumber, bytesWritten}
 use Rattle.build_page.specs.declared.built.Built.{Built}
 use Rattle.build_page.specs.Outcome.{builtNumber, bytesBuilt, selectsBuilt}
-use Rattle.ses.specs.Promises.{Check, WriteConfiguration, WriteStatus, WriteThresholds, ReadConfiguration, ReadStatus, ReadThresholds, RewriteConfiguration, RewriteStatus, RewriteThresholds, ApplyControl, ApplyThresholds, BuildControl}
+use Rattle.promises.specs.Promises.{Check, WriteConfiguration, WriteStatus, WriteThresholds, ReadConfiguration, ReadStatus, ReadThresholds, RewriteConfiguration, RewriteStatus, RewriteThresholds, ApplyControl, ApplyThresholds, BuildControl}
 
 -- the answer r keeps the promise P
 abbrev pub Numbered : (Answer → Type 0) → ℕ → Type 0

@@ -5,42 +5,18 @@ use Prim.Native.Nat.{ℕ}
 use Rattle.refusals.specs.declared.Answer.{Answer}
 use Rattle.refusals.specs.declared.Written.{Written}
 use Rattle.refusals.specs.Numbers.{answerNumber, writtenNumber, bytesWritten}
-use Rattle.refusals.specs.Outcomes.{writes, outAfter, recordAfter, WritesPage, HandsBack, Changes}
-use Rattle.page.specs.Header.{shelfTested, configurationTested}
-use Rattle.configuration_page.specs.Page.{configurationPage}
-use Rattle.configuration_page.specs.Read.{configurationRead}
-use Rattle.configuration_page.specs.Configuration.{configurationOf}
-use Rattle.status_page.specs.Page.{statusPage}
-use Rattle.status_reading.specs.Read.{statusRead, statusRecord}
-use Rattle.status_rewritten.specs.Rewritten as statusAgain
-use Rattle.threshold_page_in.specs.Page.{thresholdPage}
-use Rattle.threshold_record.specs.Read.{thresholdRead, thresholdRecord}
-use Rattle.threshold_record.specs.Rewritten as thresholdsAgain
-use Rattle.control_page.specs.Tests as control
-use Rattle.control_page.specs.Brought as controlled
-use Rattle.threshold_page_out.specs.Tests as thresholds
 use Rattle.build_page.specs.declared.built.Built.{Built}
 use Rattle.build_page.specs.Outcome.{builtNumber, bytesBuilt, selectsBuilt}
 use Rattle.build_page.proofs.PromiseKept.{settles}
-use Rattle.ses.specs.Promises.{Check, WriteConfiguration, WriteStatus, WriteThresholds, ReadConfiguration, ReadStatus, ReadThresholds, RewriteConfiguration, RewriteStatus, RewriteThresholds, ApplyControl, ApplyThresholds, BuildControl}
-use Rattle.ses.specs.PromisesForC.{Numbered, NumberedWritten, NumberedBuilt, CheckForC, WriteConfigurationForC, WriteStatusForC, WriteThresholdsForC, ReadConfigurationForC, ReadStatusForC, ReadThresholdsForC, RewriteConfigurationForC, RewriteStatusForC, RewriteThresholdsForC, ApplyControlForC, ApplyThresholdsForC, BuildControlForC}
-use Rattle.ses.specs.Settled.{OneAnswer, OneOutcome, OneWritten, OneBuilt}
+use Rattle.promises.specs.Promises.{Check, WriteConfiguration, WriteStatus, WriteThresholds, ReadConfiguration, ReadStatus, ReadThresholds, RewriteConfiguration, RewriteStatus, RewriteThresholds, ApplyControl, ApplyThresholds, BuildControl}
+use Rattle.promises.specs.PromisesForC.{Numbered, NumberedWritten, NumberedBuilt, CheckForC, WriteConfigurationForC, WriteStatusForC, WriteThresholdsForC, ReadConfigurationForC, ReadStatusForC, ReadThresholdsForC, RewriteConfigurationForC, RewriteStatusForC, RewriteThresholdsForC, ApplyControlForC, ApplyThresholdsForC, BuildControlForC}
+use Rattle.promises.specs.Settled.{OneAnswer, OneOutcome, OneWritten, OneBuilt}
 
 -- an answer that is told, and memory that follows from it
 told : {R : Type 0} (a : R) (f : R → List ℕ) → OneOutcome (λ (r : R) (o : List ℕ). (r ≡ a) × (o ≡ f r))
 told a f r q y z h l = let e = h .0 ∙ sym (l .0) in (e, h .1 ∙ ap f e ∙ sym (l .1))
 
--- so of each shape
-writes-page : (a : Answer) (page out : List ℕ) → OneOutcome (WritesPage a page out)
-writes-page a page out = told (writes a page out) (λ r. outAfter r page out)
-
-hands-back : (a : Answer) (fields old : List ℕ) → OneOutcome (HandsBack a fields old)
-hands-back a fields old = told a (λ r. recordAfter r fields old)
-
-changes : (a : Answer) (after : List ℕ) → OneOutcome (Changes a after)
-changes a after = told a (λ r. after)
-
--- and for C, whatever the promise
+-- so it is for C, whatever the promise
 numbered : {P : Answer → List ℕ → Type 0} → OneOutcome P → OneOutcome (λ (n : ℕ) (o : List ℕ). Numbered (λ r. P r o) n)
 numbered u n m y z h l = let e = u (h .0) (l .0) y z (h .1) (l .1) in (h .2 ∙ ap answerNumber (e .0) ∙ sym (l .2), e .1)
 
@@ -65,39 +41,37 @@ pub check : (shelf : List ℕ) → OneAnswer (Check shelf)
 check shelf r q h l = h ∙ sym l
 
 pub write-configuration : (shelf out : List ℕ) → OneOutcome (WriteConfiguration shelf out)
-write-configuration shelf out = writes-page (shelfTested shelf) (configurationPage shelf) out
+write-configuration shelf out = told _ _
 
 pub write-status : (shelf out : List ℕ) → OneOutcome (WriteStatus shelf out)
-write-status shelf out = writes-page (shelfTested shelf) (statusPage shelf) out
+write-status shelf out = told _ _
 
 pub write-thresholds : (shelf out : List ℕ) → OneOutcome (WriteThresholds shelf out)
-write-thresholds shelf out = writes-page (shelfTested shelf) (thresholdPage shelf) out
+write-thresholds shelf out = told _ _
 
 pub read-configuration : (page configuration : List ℕ) → OneOutcome (ReadConfiguration page configuration)
-read-configuration page configuration = hands-back (configurationRead page) (configurationOf page) configuration
+read-configuration page configuration = told _ _
 
 pub read-status : (configuration page fields : List ℕ) → OneOutcome (ReadStatus configuration page fields)
-read-status configuration page fields = hands-back (statusRead configuration page) (statusRecord configuration page) fields
+read-status configuration page fields = told _ _
 
 pub read-thresholds : (configuration page fields : List ℕ) → OneOutcome (ReadThresholds configuration page fields)
-read-thresholds configuration page fields = hands-back (thresholdRead configuration page) (thresholdRecord configuration page) fields
+read-thresholds configuration page fields = told _ _
 
 pub rewrite-configuration : (configuration out : List ℕ) → OneOutcome (RewriteConfiguration configuration out)
-rewrite-configuration configuration out = writes-page (configurationTested configuration) (configurationPage configuration) out
+rewrite-configuration configuration out = told _ _
 
 pub rewrite-status : (configuration fields out : List ℕ) → OneOutcome (RewriteStatus configuration fields out)
-rewrite-status configuration fields out =
-    writes-page (statusAgain.recordTested configuration fields) (statusAgain.pageAgain configuration fields) out
+rewrite-status configuration fields out = told _ _
 
 pub rewrite-thresholds : (configuration fields out : List ℕ) → OneOutcome (RewriteThresholds configuration fields out)
-rewrite-thresholds configuration fields out =
-    writes-page (thresholdsAgain.recordTested configuration fields) (thresholdsAgain.pageAgain configuration fields) out
+rewrite-thresholds configuration fields out = told _ _
 
 pub apply-control : (shelf page : List ℕ) → OneOutcome (ApplyControl shelf page)
-apply-control shelf page = changes (control.controlTested shelf page) (controlled.after shelf page)
+apply-control shelf page = told _ _
 
 pub apply-thresholds : (shelf page : List ℕ) → OneOutcome (ApplyThresholds shelf page)
-apply-thresholds shelf page = changes (thresholds.thresholdsTested shelf page) (thresholds.after shelf page)
+apply-thresholds shelf page = told _ _
 
 pub build-control : (shelf wanted out : List ℕ) → OneOutcome (BuildControl shelf wanted out)
 build-control shelf wanted out = settles shelf wanted out

@@ -1,0 +1,3 @@
+pub mod NoTwoOutcomes
+pub mod StatusRewritten
+pub mod ReadAndRewritten

@@ -1,3 +1,4 @@
 pub mod NoTwoOutcomes
+pub mod RefusedKeeps
 pub mod StatusRewritten
 pub mod ReadAndRewritten

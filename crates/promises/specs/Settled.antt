@@ -2,6 +2,7 @@
 use mathlib.Core.Path.{_≡_}
 use mathlib.Core.List.{List}
 use Prim.Native.Nat.{ℕ}
+use Rattle.refusals.specs.declared.Refusal.{Refusal}
 
 -- of a call that is lent nothing to be changed
 abbrev pub OneAnswer : {R : Type 0} → (R → Type 0) → Type 0
@@ -18,3 +19,17 @@ OneWritten P = (n m : ℕ) (y z : List ℕ) (b c : ℕ) → P n y b → P m z c 
 -- and the SELECTs
 abbrev pub OneBuilt : (ℕ → List ℕ → ℕ → ℕ → Type 0) → Type 0
 OneBuilt P = (n m : ℕ) (y z : List ℕ) (b c k l : ℕ) → P n y b k → P m z c l → (n ≡ m) × (y ≡ z) × (b ≡ c) × (k ≡ l)
+
+-- a refusal leaves what was lent as it was
+abbrev pub KeptIfRefused : {R : Type 0} → (Refusal → R) → (R → List ℕ → Type 0) → List ℕ → Type 0
+KeptIfRefused refused P old = (x : Refusal) (o : List ℕ) → P (refused x) o → o ≡ old
+
+-- for C, which is told 0 bytes then and, of a page that is built, 0 SELECTs
+abbrev pub KeptForC : (ℕ → List ℕ → Type 0) → List ℕ → Type 0
+KeptForC P old = (n : ℕ) (o : List ℕ) → P n o → (n ≡ 0 → ⊥) → o ≡ old
+
+abbrev pub KeptWritten : (ℕ → List ℕ → ℕ → Type 0) → List ℕ → Type 0
+KeptWritten P old = (n : ℕ) (o : List ℕ) (b : ℕ) → P n o b → (n ≡ 0 → ⊥) → (o ≡ old) × (b ≡ 0)
+
+abbrev pub KeptBuilt : (ℕ → List ℕ → ℕ → ℕ → Type 0) → List ℕ → Type 0
+KeptBuilt P old = (n : ℕ) (o : List ℕ) (b k : ℕ) → P n o b k → (n ≡ 0 → ⊥) → (o ≡ old) × (b ≡ 0) × (k ≡ 0)

@@ -8,3 +8,4 @@ pub mod PlacesOnPage
 pub mod WrittenAndRead
 pub mod PlacesInConfiguration
 pub mod ReadAndRewritten
+pub mod PageOfFront

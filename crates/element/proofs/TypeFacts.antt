@@ -1,17 +1,21 @@
 -- Each type keeps to the facts that theorems ask of its rules. Assumes nothing.
-use mathlib.Core.Path.{refl}
-use mathlib.Core.Bool.{false, _&&_}
-use Prim.Native.Nat.{_≤_}
+use mathlib.Core.Path.{_≡_, refl}
+use mathlib.Core.Bool.{true, false, _&&_}
+use mathlib.Core.List.{List, [], _∷_, _++_}
+use Prim.Native.Nat.{ℕ, _≤_}
 use native.Mathlib.Omega.{arith}
 use lib.Bits.{and-le-r}
 use lib.Dec.{eqb}
-use lib.ListN.{getD}
+use lib.ListN.{length, getD}
 use borrow.Author.Tests.{leb-true}
+use Rattle.bits.specs.Numbers.{big, bytes}
+use Rattle.bits.specs.Places.{twoAt, fourAt}
 use Rattle.bits.proofs.Halves.{num-small}
 use Rattle.element.specs.declared.types.Kind.{Kind}
 use Rattle.element.specs.declared.types.Kind.the-variants.{Cooling, Temperature, Voltage, Current}
 use Rattle.element.specs.Verdict.{unlimited, above, below, over, under}
-use Rattle.element.specs.Types.{fanLayout, isOn, fanStatus, sensorLayout, temperatureStatus, voltageStatus, currentStatus, rulesOf}
+use Rattle.element.specs.Types.{fanLayout, isOn, fanStatus, sensorLayout, temperatureStatus, voltageStatus, currentStatus, rulesOf, layoutOf, readingAllowed, nominalAllowed, had, ordered}
+use Rattle.element.specs.Settings.{settingsFormed, fieldsFormed}
 use Rattle.element.proofs.SettingsBothWays.{Sound, sound-tested}
 use Rattle.element.proofs.StatusBothWays.{lays-tested}
 use Rattle.element.proofs.Facts.{Facts, code-picked, code-judged, code-either}
@@ -66,3 +70,21 @@ facts Current = record {
   shows = λ s v r l p a.
       (omega arith, (omega arith, (num-small (v .highwarn), (num-small (v .highcrit), (omega arith, (omega arith, tt))))));
 }
+
+-- an element of the type with the least that it may have: a speed where there is one, no thresholds, reading 0, the least nominal
+abbrev pub least : Kind → List ℕ
+least k =
+    (0 ∷ 0 ∷ 0 ∷ rulesOf k .layout .speed ∷ [])
+    ++ (0 ∷ 0 ∷ 0 ∷ 0 ∷ [])
+    ++ (0 ∷ 0 ∷ bytes 2 (rulesOf k .leastNominal))
+    ++ (0 ∷ 0 ∷ 0 ∷ 0 ∷ [])
+
+pub least-length : (k : Kind) → length (least k) ≡ 16
+least-length k = refl
+
+pub least-formed : (k : Kind) → fieldsFormed k (fourAt (least k) 0) (fourAt (least k) 4) (big (twoAt (least k) 8)) (big (twoAt (least k) 10)) ≡ true
+unfolding settingsFormed layoutOf had ordered readingAllowed nominalAllowed
+least-formed Cooling = refl
+least-formed Temperature = refl
+least-formed Voltage = refl
+least-formed Current = refl

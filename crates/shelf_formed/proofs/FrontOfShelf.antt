@@ -37,7 +37,7 @@ module _ (s : List ℕ) where
     pub count-same : typeCount (front s) t ≡ typeCount s t
     count-same = front-get (typePlace t + 1) (omega arith)
 
-    text-same : textLength (front s) t ≡ textLength s t
+    pub text-same : textLength (front s) t ≡ textLength s t
     text-same = front-get (typePlace t + 2) (omega arith)
 
     text-byte-same : (i : ℕ) → i < mostText → textByteFormed (front s) t i ≡ textByteFormed s t i

@@ -5,3 +5,4 @@ pub mod ElementTypes
 pub mod FrontOfShelf
 pub mod ElementsPut
 pub mod FormedShelf
+pub mod SomeShelf

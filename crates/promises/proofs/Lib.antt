@@ -1,4 +1,5 @@
 pub mod NoTwoOutcomes
 pub mod RefusedKeeps
+pub mod Exactly
 pub mod StatusRewritten
 pub mod ReadAndRewritten

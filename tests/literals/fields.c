@@ -22,7 +22,12 @@ void hold_lengths(void)
     /* Document 01: at most 296; and 48 + 4 x 8 + 8 texts of 32. */
     hold("SES_LONGEST_SLOT_PAGE", SES_LONGEST_SLOT_PAGE, 296);
     hold("SES_LONGEST_CONFIGURATION_PAGE", SES_LONGEST_CONFIGURATION_PAGE, 336);
-    /* The records of docs/LAYOUT.md, without gaps. */
+    /* The records of docs/LAYOUT.md, without gaps: four bytes of an entry that all types have, and twelve by the type. */
+    hold("struct ses_cooling", sizeof(struct ses_cooling), 12);
+    hold("struct ses_temperature", sizeof(struct ses_temperature), 12);
+    hold("struct ses_voltage", sizeof(struct ses_voltage), 12);
+    hold("struct ses_current", sizeof(struct ses_current), 12);
+    hold("bytes of struct ses_shown", sizeof ((struct ses_shown *)0)->of.bytes, 12);
     hold("struct ses_shown", sizeof(struct ses_shown), 16);
     hold("struct ses_status", sizeof(struct ses_status), 1156);
     hold("struct ses_thresholds", sizeof(struct ses_thresholds), 292);

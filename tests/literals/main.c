@@ -77,6 +77,6 @@ int main(int count, char **words)
     hold_fields();
     if (differing != 0)
         return 1;
-    printf("literals: %lu values that a C program gets, each as document 01 has it\n", held);
+    printf("literals: %lu values that a C program gets, each the literal one\n", held);
     return 0;
 }

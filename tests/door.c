@@ -25,52 +25,6 @@
 #include <stdlib.h>
 #include <string.h>
 
-_Static_assert(SES_CONFIGURATION_LENGTH == 332, "a configuration");
-_Static_assert(SES_LONGEST_BLOCK == 1356, "the longest shelf block");
-_Static_assert(SES_LONGEST_WANTED_LIST == 256, "the longest wanted list");
-_Static_assert(SES_LONGEST_SLOT_PAGE == 296, "the longest status, control or threshold page");
-_Static_assert(SES_LONGEST_CONFIGURATION_PAGE == 336, "the longest configuration page");
-_Static_assert(sizeof(struct ses_shown) == 16, "an entry of a status record has no gaps");
-_Static_assert(sizeof(struct ses_status) == 1156, "a status record has no gaps");
-_Static_assert(sizeof(struct ses_thresholds) == 292, "a threshold record has no gaps");
-
-/* Each field of an entry, by its name: the fields of bytes 1 to 3 of the status element stand in page order. */
-#define ENTRY_HAS(field, at) _Static_assert(offsetof(struct ses_shown, field) == (at), #field " stands in page order")
-
-ENTRY_HAS(code, 0);
-ENTRY_HAS(prdfail, 1);
-ENTRY_HAS(disabled, 2);
-ENTRY_HAS(swap, 3);
-ENTRY_HAS(of.cooling.ident, 4);
-ENTRY_HAS(of.cooling.speed, 5);
-ENTRY_HAS(of.cooling.fail, 7);
-ENTRY_HAS(of.cooling.rqsted_on, 8);
-ENTRY_HAS(of.cooling.off, 9);
-ENTRY_HAS(of.cooling.speed_code, 10);
-ENTRY_HAS(of.cooling.none, 11);
-ENTRY_HAS(of.temperature.ident, 4);
-ENTRY_HAS(of.temperature.fail, 5);
-ENTRY_HAS(of.temperature.temperature, 6);
-ENTRY_HAS(of.temperature.ot_failure, 7);
-ENTRY_HAS(of.temperature.ot_warning, 8);
-ENTRY_HAS(of.temperature.ut_failure, 9);
-ENTRY_HAS(of.temperature.ut_warning, 10);
-ENTRY_HAS(of.temperature.none, 11);
-ENTRY_HAS(of.voltage.ident, 4);
-ENTRY_HAS(of.voltage.fail, 5);
-ENTRY_HAS(of.voltage.warn_over, 6);
-ENTRY_HAS(of.voltage.warn_under, 7);
-ENTRY_HAS(of.voltage.crit_over, 8);
-ENTRY_HAS(of.voltage.crit_under, 9);
-ENTRY_HAS(of.voltage.voltage, 10);
-ENTRY_HAS(of.voltage.none, 12);
-ENTRY_HAS(of.current.ident, 4);
-ENTRY_HAS(of.current.fail, 5);
-ENTRY_HAS(of.current.warn_over, 6);
-ENTRY_HAS(of.current.crit_over, 7);
-ENTRY_HAS(of.current.current, 8);
-ENTRY_HAS(of.current.none, 10);
-
 #define GUARD_LENGTH 64
 #define GUARD_BYTE 0x5A
 #define NOT_WRITTEN 0xA5C3960FU

@@ -1,0 +1,235 @@
+/* Lengths and fields of the header by their names: a status page and a threshold page, read and written again, and a control page
+ * built as README.md shows it. */
+#include "literals.h"
+
+#include <string.h>
+
+void hold_lengths(void)
+{
+    hold("SES_MOST_TYPES", SES_MOST_TYPES, 8);
+    hold("SES_MOST_ELEMENTS", SES_MOST_ELEMENTS, 64);
+    hold("SES_MOST_TEXT", SES_MOST_TEXT, 32);
+    /* One slot for each type and each element. */
+    hold("SES_MOST_SLOTS", SES_MOST_SLOTS, 72);
+    /* docs/LAYOUT.md: 36 bytes for a type from 44 on, 16 for an element from 332 on, four of them settings. */
+    hold("SES_TYPE_LENGTH", SES_TYPE_LENGTH, 36);
+    hold("SES_CONFIGURATION_LENGTH", SES_CONFIGURATION_LENGTH, 332);
+    hold("SES_FIRST_ELEMENT", SES_FIRST_ELEMENT, 332);
+    hold("SES_ELEMENT_LENGTH", SES_ELEMENT_LENGTH, 16);
+    hold("SES_SETTINGS_LENGTH", SES_SETTINGS_LENGTH, 4);
+    hold("SES_LONGEST_BLOCK", SES_LONGEST_BLOCK, 1356);
+    hold("SES_LONGEST_WANTED_LIST", SES_LONGEST_WANTED_LIST, 256);
+    /* Document 01: at most 296; and 48 + 4 x 8 + 8 texts of 32. */
+    hold("SES_LONGEST_SLOT_PAGE", SES_LONGEST_SLOT_PAGE, 296);
+    hold("SES_LONGEST_CONFIGURATION_PAGE", SES_LONGEST_CONFIGURATION_PAGE, 336);
+    /* The records of docs/LAYOUT.md, without gaps: four bytes of an entry that all types have, and twelve by the type. */
+    hold("struct ses_cooling", sizeof(struct ses_cooling), 12);
+    hold("struct ses_temperature", sizeof(struct ses_temperature), 12);
+    hold("struct ses_voltage", sizeof(struct ses_voltage), 12);
+    hold("struct ses_current", sizeof(struct ses_current), 12);
+    hold("bytes of struct ses_shown", sizeof ((struct ses_shown *)0)->of.bytes, 12);
+    hold("struct ses_shown", sizeof(struct ses_shown), 16);
+    hold("struct ses_status", sizeof(struct ses_status), 1156);
+    hold("struct ses_thresholds", sizeof(struct ses_thresholds), 292);
+}
+
+/* A status element, and what it shows. Byte 0: bit 6 PRDFAIL, 5 DISABLED, 4 SWAP, bits 3 to 0 the code. Each field of a type is
+ * set alone in one element, and with all others in the last, where numbers are the largest. */
+struct row {
+    uint8_t element[4];
+    struct ses_shown shown;
+};
+
+/* Byte 1: bit 7 IDENT, bits 2 to 0 the upper part of the speed; byte 2 its lower part. Byte 3: bit 6 FAIL, 5 RQSTED ON, 4 OFF,
+ * bits 2 to 0 the speed code. The speed is 1,330 = 0532h. Here too the fields that all types have. */
+static const struct row fans[] = {
+    {{0x02, 0x00, 0x00, 0x00}, {.code = 2}},
+    {{0x42, 0x00, 0x00, 0x00}, {.code = 2, .prdfail = 1}},
+    {{0x23, 0x00, 0x00, 0x00}, {.code = 3, .disabled = 1}},
+    {{0x14, 0x00, 0x00, 0x00}, {.code = 4, .swap = 1}},
+    {{0x05, 0x80, 0x00, 0x00}, {.code = 5, .of.cooling.ident = 1}},
+    {{0x06, 0x05, 0x32, 0x00}, {.code = 6, .of.cooling.speed = {0x05, 0x32}}},
+    {{0x07, 0x00, 0x00, 0x40}, {.code = 7, .of.cooling.fail = 1}},
+    {{0x08, 0x00, 0x00, 0x20}, {.code = 8, .of.cooling.rqsted_on = 1}},
+    {{0x00, 0x00, 0x00, 0x10}, {.code = 0, .of.cooling.off = 1}},
+    {{0x01, 0x00, 0x00, 0x03}, {.code = 1, .of.cooling.speed_code = 3}},
+    {{0x71, 0x87, 0xFF, 0x77}, {.code = 1, .prdfail = 1, .disabled = 1, .swap = 1, .of.cooling = {
+        .ident = 1, .speed = {0x07, 0xFF}, .fail = 1, .rqsted_on = 1, .off = 1, .speed_code = 7}}},
+};
+
+/* Byte 1: bits 7 and 6 IDENT, FAIL. Byte 2 the temperature. Byte 3: bits 3 to 0 OT FAILURE, OT WARNING, UT FAILURE, UT WARNING. */
+static const struct row temperatures[] = {
+    {{0x03, 0x00, 0x00, 0x00}, {.code = 3}},
+    {{0x01, 0x80, 0x00, 0x00}, {.code = 1, .of.temperature.ident = 1}},
+    {{0x01, 0x40, 0x00, 0x00}, {.code = 1, .of.temperature.fail = 1}},
+    {{0x01, 0x00, 0x2D, 0x00}, {.code = 1, .of.temperature.temperature = 0x2D}},
+    {{0x01, 0x00, 0x00, 0x08}, {.code = 1, .of.temperature.ot_failure = 1}},
+    {{0x01, 0x00, 0x00, 0x04}, {.code = 1, .of.temperature.ot_warning = 1}},
+    {{0x01, 0x00, 0x00, 0x02}, {.code = 1, .of.temperature.ut_failure = 1}},
+    {{0x01, 0x00, 0x00, 0x01}, {.code = 1, .of.temperature.ut_warning = 1}},
+    {{0x71, 0xC0, 0xFF, 0x0F}, {.code = 1, .prdfail = 1, .disabled = 1, .swap = 1, .of.temperature = {
+        .ident = 1, .fail = 1, .temperature = 0xFF,
+        .ot_failure = 1, .ot_warning = 1, .ut_failure = 1, .ut_warning = 1}}},
+};
+
+/* Byte 1: bits 7 and 6 IDENT, FAIL; bits 3 to 0 WARN OVER, WARN UNDER, CRIT OVER, CRIT UNDER. Bytes 2 and 3 the voltage. */
+static const struct row voltages[] = {
+    {{0x06, 0x00, 0x00, 0x00}, {.code = 6}},
+    {{0x01, 0x80, 0x00, 0x00}, {.code = 1, .of.voltage.ident = 1}},
+    {{0x01, 0x40, 0x00, 0x00}, {.code = 1, .of.voltage.fail = 1}},
+    {{0x01, 0x08, 0x00, 0x00}, {.code = 1, .of.voltage.warn_over = 1}},
+    {{0x01, 0x04, 0x00, 0x00}, {.code = 1, .of.voltage.warn_under = 1}},
+    {{0x01, 0x02, 0x00, 0x00}, {.code = 1, .of.voltage.crit_over = 1}},
+    {{0x01, 0x01, 0x00, 0x00}, {.code = 1, .of.voltage.crit_under = 1}},
+    {{0x01, 0x00, 0x05, 0x29}, {.code = 1, .of.voltage.voltage = {0x05, 0x29}}},
+    {{0x71, 0xCF, 0xFF, 0xFE}, {.code = 1, .prdfail = 1, .disabled = 1, .swap = 1, .of.voltage = {
+        .ident = 1, .fail = 1, .warn_over = 1, .warn_under = 1, .crit_over = 1, .crit_under = 1,
+        .voltage = {0xFF, 0xFE}}}},
+};
+
+/* The same without the two UNDER bits. */
+static const struct row currents[] = {
+    {{0x01, 0x00, 0x00, 0x00}, {.code = 1}},
+    {{0x01, 0x80, 0x00, 0x00}, {.code = 1, .of.current.ident = 1}},
+    {{0x01, 0x40, 0x00, 0x00}, {.code = 1, .of.current.fail = 1}},
+    {{0x01, 0x08, 0x00, 0x00}, {.code = 1, .of.current.warn_over = 1}},
+    {{0x01, 0x02, 0x00, 0x00}, {.code = 1, .of.current.crit_over = 1}},
+    {{0x01, 0x00, 0x05, 0x29}, {.code = 1, .of.current.current = {0x05, 0x29}}},
+    {{0x71, 0xCA, 0xFF, 0xFE}, {.code = 1, .prdfail = 1, .disabled = 1, .swap = 1, .of.current = {
+        .ident = 1, .fail = 1, .warn_over = 1, .crit_over = 1, .current = {0xFF, 0xFE}}}},
+};
+
+/* 64 bytes: generation 7, four types, no identification; 10 fans, 8 temperature, 8 voltage and 6 current sensors, no texts. */
+static const uint8_t configuration_page[64] = {
+    0x01, 0x00, 0x00, 0x3C, 0x00, 0x00, 0x00, 0x07, 0x11, 0x00, 0x04, 0x24,
+    [48] = COOLING, 10, 0, 0, TEMPERATURE, 8, 0, 0, VOLTAGE, 8, 0, 0, CURRENT, 6, 0, 0,
+};
+
+/* Four types and 32 elements make 36 entries, and a page of 8 + 4 x 36 = 152 bytes. */
+enum { ENTRIES = 36, PAGE = 152 };
+
+static uint8_t configuration[SES_CONFIGURATION_LENGTH];
+static uint8_t page[PAGE] = {0x02, 0x00, 0x00, 0x94, 0x00, 0x00, 0x00, 0x07};
+static struct ses_status shown;
+
+/* The elements of a type, its overall element first, from an entry on. Answers the next entry. */
+static size_t put_rows(size_t at, const struct row *rows, size_t count)
+{
+    for (size_t i = 0; i < count; i++) {
+        memcpy(page + 8 + 4 * (at + i), rows[i].element, 4);
+        shown.entry[at + i] = rows[i].shown;
+    }
+    return at + count;
+}
+
+#define PUT_ROWS(at, rows) put_rows(at, rows, sizeof rows / sizeof *rows)
+
+/* Read, the page says what is shown, and the record keeps its bytes behind that; written again, it is the page. */
+static void hold_status(const char *what)
+{
+    struct ses_status record;
+    struct output out;
+    fill(&record, sizeof record);
+    hold(what, ses_read_status(configuration, sizeof configuration, page, PAGE, &record), 0);
+    hold_bytes(what, &record, &shown, sizeof record);
+    empty(&out);
+    hold(what, ses_rewrite_status(configuration, sizeof configuration, &shown, out.bytes, sizeof out.bytes, &out.written), 0);
+    hold_output(what, &out, page, PAGE);
+}
+
+/* A byte behind the last field of the type, set: a field where the type shows none. */
+static void hold_none(const char *what, uint8_t *none, size_t count)
+{
+    struct output out;
+    for (size_t i = 0; i < count; i++) {
+        none[i] = 1;
+        empty(&out);
+        hold(what, ses_rewrite_status(configuration, sizeof configuration, &shown, out.bytes, sizeof out.bytes, &out.written), 6);
+        hold_no_output(what, &out);
+        none[i] = 0;
+    }
+}
+
+static void hold_shown(void)
+{
+    hold("a configuration", ses_read_configuration(configuration_page, sizeof configuration_page, configuration), 0);
+    fill(&shown, sizeof shown);
+    size_t first_temperature = PUT_ROWS(0, fans);
+    size_t first_voltage = PUT_ROWS(first_temperature, temperatures);
+    size_t first_current = PUT_ROWS(first_voltage, voltages);
+    hold("entries", PUT_ROWS(first_current, currents), ENTRIES);
+    shown.entries[0] = 0;
+    shown.entries[1] = ENTRIES;
+
+    /* Page byte 1: bit 2 NON-CRIT, bit 1 CRIT. */
+    page[1] = 0x04;
+    shown.noncritical = 1;
+    shown.critical = 0;
+    hold_status("fields, NON-CRIT");
+    page[1] = 0x02;
+    shown.noncritical = 0;
+    shown.critical = 1;
+    hold_status("fields, CRIT");
+
+    struct ses_shown *entry = shown.entry;
+    hold_none("none of a fan", entry[1].of.cooling.none, 5);
+    hold_none("none of a temperature sensor", entry[first_temperature + 1].of.temperature.none, 5);
+    hold_none("none of a voltage sensor", entry[first_voltage + 1].of.voltage.none, 4);
+    hold_none("none of a current sensor", entry[first_current + 1].of.current.none, 6);
+}
+
+/* One sensor of each type, and its thresholds: high critical, high warning, low warning, low critical. */
+static void hold_thresholds(void)
+{
+    static const uint8_t three_types[60] = {
+        0x01, 0x00, 0x00, 0x38, 0x00, 0x00, 0x00, 0x07, 0x11, 0x00, 0x03, 0x24,
+        [48] = TEMPERATURE, 1, 0, 0, VOLTAGE, 1, 0, 0, CURRENT, 1, 0, 0,
+    };
+    static const uint8_t limits[32] = {
+        0x05, 0x00, 0x00, 0x1C, 0x00, 0x00, 0x00, 0x07,
+        0, 0, 0, 0, 75, 65, 25, 20,
+        0, 0, 0, 0, 20, 12, 7, 18,
+        0, 0, 0, 0, 40, 30, 0, 0,
+    };
+    struct ses_thresholds record, told;
+    struct output out;
+    hold("a configuration", ses_read_configuration(three_types, sizeof three_types, configuration), 0);
+    fill(&told, sizeof told);
+    memset(told.spare, 0, 2);
+    told.entries[0] = 0;
+    told.entries[1] = 6;
+    memcpy(told.entry, limits + 8, 24);
+    fill(&record, sizeof record);
+    hold("thresholds", ses_read_thresholds(configuration, sizeof configuration, limits, sizeof limits, &record), 0);
+    hold_bytes("thresholds", &record, &told, sizeof record);
+    /* What is spare is not looked at. */
+    fill(told.spare, 2);
+    empty(&out);
+    hold("thresholds, again",
+         ses_rewrite_thresholds(configuration, sizeof configuration, &told, out.bytes, sizeof out.bytes, &out.written), 0);
+    hold_output("thresholds, again", &out, limits, sizeof limits);
+}
+
+/* README.md's example for A's middle fan, whose SPEED 3 becomes 7. */
+static void hold_full_speed(void)
+{
+    static const uint8_t asked[24] = {0x02, 0x00, 0x00, 0x14, 0x00, 0x00, 0x00, 0x07, [16] = 0x80, 0x00, 0x00, 0x27};
+    uint8_t wanted[SES_LONGEST_WANTED_LIST];
+    struct output out;
+    for (size_t j = 0; j < 3; j++)
+        memcpy(wanted + SES_SETTINGS_LENGTH * j,
+               shelf_a + SES_FIRST_ELEMENT + SES_ELEMENT_LENGTH * j, SES_SETTINGS_LENGTH);
+    wanted[SES_SETTINGS_LENGTH * 1 + 3] |= 7;
+    empty(&out);
+    hold("full speed", ses_build_control(shelf_a, A_LENGTH, wanted, SES_SETTINGS_LENGTH * 3,
+                                         out.bytes, sizeof out.bytes, &out.written, &out.selects), 0);
+    hold("full speed", out.selects, 1);
+    hold_output("full speed", &out, asked, 24);
+}
+
+void hold_fields(void)
+{
+    hold_shown();
+    hold_thresholds();
+    hold_full_speed();
+}

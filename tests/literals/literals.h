@@ -1,0 +1,44 @@
+/* What the files of this folder share.
+ *
+ * Expected numbers and bytes are document 01's, or worked out from its rules in a comment beside them. Shelf blocks and records are
+ * laid out as docs/LAYOUT.md says, by literal places. The words of a meaning are ours; which number they are for is document 01's. */
+#ifndef LITERALS_H
+#define LITERALS_H
+
+#include "ses.h"
+
+enum { COOLING = 0x03, TEMPERATURE = 0x04, VOLTAGE = 0x12, CURRENT = 0x13 };
+enum { A_LENGTH = 380, SENSOR_LENGTH = 348 };
+
+/* Document 01's shelf A, with zeros for identification. */
+extern const uint8_t shelf_a[A_LENGTH];
+
+/* A shelf with one sensor, of generation 7 and without a text. */
+void put_sensor(uint8_t shelf[SENSOR_LENGTH], uint8_t type, const uint8_t thresholds[4], uint16_t reading, uint16_t nominal);
+
+/* What is, and what it has to be. A difference is told, and fails the program. */
+void hold(const char *what, unsigned long is, unsigned long wanted);
+void hold_words(const char *what, const char *is, const char *wanted);
+void hold_bytes(const char *what, const void *is, const void *wanted, size_t length);
+
+/* Memory to lend, filled with bytes that nothing else here has. */
+void fill(void *memory, size_t length);
+
+struct output {
+    uint8_t bytes[400];
+    uint32_t written, selects;
+};
+
+void empty(struct output *out);
+
+/* A page was written and every byte behind it kept; or, by a refused call, nothing. */
+void hold_output(const char *what, const struct output *out, const uint8_t *page, size_t length);
+void hold_no_output(const char *what, const struct output *out);
+
+void hold_fans_a(void);
+void hold_refusals(void);
+void hold_meanings(const char *file);
+void hold_lengths(void);
+void hold_fields(void);
+
+#endif

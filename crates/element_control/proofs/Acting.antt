@@ -6,7 +6,7 @@ use Prim.Native.Nat.{ℕ}
 use lib.Dec.{eqb}
 use lib.ListN.{length}
 use Rattle.bits.specs.Choice.{pick}
-use Rattle.bits.proofs.Logic.{and-left, pick-yes, pick-no}
+use Rattle.bits.proofs.Logic.{never, and-left, pick-yes, pick-no}
 use Rattle.element.specs.declared.types.Kind.{Kind}
 use Rattle.element.specs.declared.settings.Settings.{Settings}
 use Rattle.element_control.specs.declared.Control.{Control}
@@ -90,13 +90,14 @@ module _ (k : Kind) where
       go false true = h (settingsOf k overall) (settings-storable k overall)
       go false false = u
 
+  -- what a request makes of settings is read back
+  acted-back : (e : List ℕ) (r : Settings) → Storable k r → settingsOf k (settingsBytes k (acted r (settingsOf k e))) ≡ acted r (settingsOf k e)
+  acted-back e r l = settings-back k (acted r (settingsOf k e)) (acted-storable k r (settingsOf k e) l (settings-storable k e))
+
   twice : (e : List ℕ) (r : Settings) → Storable k r
       → settingsBytes k (acted r (settingsOf k (settingsBytes k (acted r (settingsOf k e)))))
       ≡ settingsBytes k (acted r (settingsOf k e))
-  twice e r l =
-      let s = settingsOf k e in
-      ap (λ (x : Settings). settingsBytes k (acted r x)) (settings-back k (acted r s) (acted-storable k r s l (settings-storable k e)))
-      ∙ ap (settingsBytes k) (acted-twice r s)
+  twice e r l = ap (λ (x : Settings). settingsBytes k (acted r x)) (acted-back e r l) ∙ ap (settingsBytes k) (acted-twice r (settingsOf k e))
 
   module _ (overall own e : List ℕ) where
     -- settings that the type may have stay such
@@ -116,14 +117,21 @@ module _ (k : Kind) where
     unfolding settled chosen controlOf
     settled-none p q = rw (p, q)
 
+    -- the settings that are stored then are those that the request makes
+    pub settled-said : let c : Control = chosen (controlOf k overall) (controlOf k own) in c .select ≡ true
+        → settingsOf k (settled k c e) ≡ acted (c .request) (settingsOf k e)
+    unfolding settled
+    settled-said =
+        by-chosen (λ (c : Control). c .select ≡ true → settingsOf k (settled k c e) ≡ acted (c .request) (settingsOf k e)) (λ h. never (sym h))
+        (λ r l h. acted-back e r l)
+        overall
+        own
+
     -- no control element sets a SWAP
     pub swap-kept : settingsOf k (settled k (chosen (controlOf k overall) (controlOf k own)) e) .swap ≡ true → settingsOf k e .swap ≡ true
     unfolding settled
     swap-kept =
         by-chosen (λ (c : Control). settingsOf k (settled k c e) .swap ≡ true → settingsOf k e .swap ≡ true) (λ h. h)
-        (λ r l h.
-        let s = settingsOf k e in
-        let b = settings-back k (acted r s) (acted-storable k r s l (settings-storable k e)) in
-        and-left (s .swap) (not (r .swap)) (sym (ap (λ (x : Settings). x .swap) b) ∙ h))
+        (λ r l h. and-left (settingsOf k e .swap) (not (r .swap)) (sym (ap (λ (x : Settings). x .swap) (acted-back e r l)) ∙ h))
         overall
         own

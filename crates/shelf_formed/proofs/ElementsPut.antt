@@ -3,7 +3,8 @@ use mathlib.Core.Path.{_≡_, refl, sym, ap, _∙_}
 use mathlib.Core.Bool.{Bool, true, false, _&&_}
 use mathlib.Core.List.{List}
 use mathlib.Core.Logic.{_⊎_, inl, inr, ⊎-elim}
-use Prim.Native.Nat.{ℕ, _+_, _<_, _≤_, _-_}
+use Prim.Native.Nat.{ℕ, zero, suc, _+_, _<_, _≤_, _-_}
+use native.Mathlib.Nat.{not-suc-le-zero, le-of-suc-le-suc, eq-or-lt-of-le}
 use native.Mathlib.Omega.{arith}
 use lib.Dec.{eqb, ltb}
 use lib.ListN.{length, getD}
@@ -63,10 +64,35 @@ module _ (s x : List ℕ) (e : front x ≡ front s) (h : length x ≡ length s) 
       (and-both (front-alike s x e ∙ front-formed s w) (eq-eqb (length x) (elementPlace (elementsOf x)) (h ∙ length-formed s w ∙ ap elementPlace (sym n))))
       (below-all (elementFormed x) (elementsOf x) (λ j b. let l : j < elementsOf s = rw n at b in element j l (f j l)))
 
+-- byte q is one of the four from k on
+abbrev Among : ℕ → ℕ → Type 0
+Among k q = (i : ℕ) × (i < 4) × (q ≡ k + i)
+
+four-or-other : (k q : ℕ) → Among k q ⊎ Outside q k
+four-or-other k q =
+    by-case (ltb q k) (λ a. inr (inl (ltb-true q k a)))
+    (λ a.
+    let b = ltb-false q k a in
+    by-case (ltb q (k + 4)) (λ c. let d = ltb-true q (k + 4) c in inl (q - k, omega arith, omega arith)) (λ c. inr (inr (ltb-false q (k + 4) c))))
+
+-- one of the four of one of the first n elements, or of none
+abbrev InRow : (ℕ → ℕ) → ℕ → ℕ → Type 0
+InRow at n q = (j : ℕ) × (j < n) × Among (at j) q
+
+in-row : (at : ℕ → ℕ) (n q : ℕ) → InRow at n q ⊎ ((k : ℕ) → k < n → Outside q (at k))
+in-row at zero q = inr (λ k l. absurd (not-suc-le-zero l))
+in-row at (suc n) q =
+    ⊎-elim (λ (r : InRow at n q). inl (r .0, omega arith, r .2))
+    (λ (h : (k : ℕ) → k < n → Outside q (at k)).
+    ⊎-elim (λ (r : Among (at n) q). inl (n, omega arith, r))
+    (λ (o : Outside q (at n)). inr (λ k l. ⊎-elim (λ e. rw e o) (h k) (eq-or-lt-of-le (le-of-suc-le-suc l))))
+    (four-or-other (at n) q))
+    (in-row at n q)
+
 module _ (at : ℕ → ℕ) (o : ℕ) (place : (j : ℕ) → at j ≡ elementPlace j + o) (low : o + 4 ≤ 8) where
   -- bytes of an element beside the four are beside those of every element
-  beside : (j q w : ℕ) → q + w ≤ 16 → (q + w ≤ o) ⊎ (o + 4 ≤ q) → (k : ℕ) → (elementPlace j + q + w ≤ at k) ⊎ (at k + 4 ≤ elementPlace j + q)
-  beside j q w l h k =
+  beside : (j q : ℕ) → q + 4 ≤ 16 → Apart q o → (k : ℕ) → Apart (elementPlace j + q) (at k)
+  beside j q l h k =
       by-case (ltb j k)
       (λ e. let m = ltb-true j k e in inl (omega (arith, place k)))
       (λ e.
@@ -75,19 +101,14 @@ module _ (at : ℕ → ℕ) (o : ℕ) (place : (j : ℕ) → at j ≡ elementPla
       (λ e2. let n = ltb-true k j e2 in inr (omega (arith, place k)))
       (λ e2.
       let n = ltb-false k j e2 in
-      ⊎-elim (λ (a : q + w ≤ o). inl (omega (arith, place k))) (λ (a : o + 4 ≤ q). inr (omega (arith, place k))) h))
-
-  byte-beside : (j q : ℕ) → q < 16 → (q + 1 ≤ o) ⊎ (o + 4 ≤ q) → (k : ℕ) → Outside (elementPlace j + q) (at k)
-  byte-beside j q l h k =
-      ⊎-elim (λ (a : elementPlace j + q + 1 ≤ at k). inl (omega arith)) (λ (a : at k + 4 ≤ elementPlace j + q). inr a)
-      (beside j q 1 (omega arith) h k)
+      ⊎-elim (λ (a : q + 4 ≤ o). inl (omega (arith, place k))) (λ (a : o + 4 ≤ q). inr (omega (arith, place k))) h))
 
   module _ (f : ℕ → List ℕ) (s : List ℕ) (n : ℕ) where
     pub front-after : front (foursPut at f s n) ≡ front s
     front-after = front-kept at f s (elementPlace 0) n (λ k l. omega (arith, place k))
 
     four-after : (j q : ℕ) → q + 4 ≤ 16 → Apart q o → fourAt (foursPut at f s n) (elementPlace j + q) ≡ fourAt s (elementPlace j + q)
-    four-after j q l h = four-kept at f s n (elementPlace j + q) (λ k m. beside j q 4 l h k)
+    four-after j q l h = four-kept at f s n (elementPlace j + q) (λ k m. beside j q l h k)
 
     -- an element that was not reached yet
     pub row-later : (j : ℕ) → n ≤ j → fourAt (foursPut at f s n) (at j) ≡ fourAt s (at j)
@@ -100,19 +121,12 @@ module _ (at : ℕ → ℕ) (o : ℕ) (place : (j : ℕ) → at j ≡ elementPla
     -- an element whose four bytes are the same keeps every byte
     element-kept : (j : ℕ) → fourAt (foursPut at f s n) (at j) ≡ fourAt s (at j) → (q : ℕ) → q < 16
         → getD (foursPut at f s n) (elementPlace j + q) 0 ≡ getD s (elementPlace j + q) 0
-    element-kept j e q l =
-        by-case (ltb q o) (λ a. let b = ltb-true q o a in outside (inl (omega arith)))
-        (λ a.
-        let b = ltb-false q o a in
-        by-case (ltb q (o + 4)) (λ c. let d = ltb-true q (o + 4) c in inside b d) (λ c. let d = ltb-false q (o + 4) c in outside (inr d)))
+    element-kept j e q l = ⊎-elim inside (byte-kept at f s n (elementPlace j + q)) (in-row at n (elementPlace j + q))
       where
-        outside : (q + 1 ≤ o) ⊎ (o + 4 ≤ q) → getD (foursPut at f s n) (elementPlace j + q) 0 ≡ getD s (elementPlace j + q) 0
-        outside h = byte-kept at f s n (elementPlace j + q) (λ k m. byte-beside j q l h k)
-
-        inside : o ≤ q → q < o + 4 → getD (foursPut at f s n) (elementPlace j + q) 0 ≡ getD s (elementPlace j + q) 0
-        inside b d =
-            let m : elementPlace j + q ≡ at j + (q - o) = omega (arith, place j) in
-            ap (λ (i : ℕ). getD (foursPut at f s n) i 0) m ∙ four-byte (foursPut at f s n) s (at j) e (q - o) (omega arith) ∙ ap (λ (i : ℕ). getD s i 0) (sym m)
+        inside : InRow at n (elementPlace j + q) → getD (foursPut at f s n) (elementPlace j + q) 0 ≡ getD s (elementPlace j + q) 0
+        inside (k, h, (i, m, p)) =
+            let r : elementPlace j + q ≡ at j + i = omega (arith, place j, place k) in
+            ap (λ (w : ℕ). getD (foursPut at f s n) w 0) r ∙ four-byte (foursPut at f s n) s (at j) e i m ∙ ap (λ (w : ℕ). getD s w 0) (sym r)
 
     -- they were put if a test passed, else the shelf is as it was
     module _ (t : Bool) where
@@ -135,11 +149,11 @@ module _ (at : ℕ → ℕ) (o : ℕ) (place : (j : ℕ) → at j ≡ elementPla
       pub four-same : (j q : ℕ) → q + 4 ≤ 16 → Apart q o → fourAt after (elementPlace j + q) ≡ fourAt s (elementPlace j + q)
       four-same j q l h = either (λ (x : List ℕ). fourAt x (elementPlace j + q) ≡ fourAt s (elementPlace j + q)) refl (λ e. four-after j q l h)
 
-      pub reading-same : (j : ℕ) → readingAt after j ≡ readingAt s j
+      reading-same : (j : ℕ) → readingAt after j ≡ readingAt s j
       unfolding readingAt
       reading-same j = ap (λ (e : List ℕ). big (twoAt e 0)) (four-same j 8 (omega arith) (inr (omega arith)))
 
-      pub nominal-same : (j : ℕ) → nominalAt after j ≡ nominalAt s j
+      nominal-same : (j : ℕ) → nominalAt after j ≡ nominalAt s j
       unfolding nominalAt
       nominal-same j = ap (λ (e : List ℕ). big (twoAt e 0)) (four-same j 10 (omega arith) (inr (omega arith)))
 
@@ -161,6 +175,14 @@ module _ (at : ℕ → ℕ) (o : ℕ) (place : (j : ℕ) → at j ≡ elementPla
       -- nothing is put that does not stand already
       pub rows-unmoved : (t ≡ true → (j : ℕ) → j < n → fourAt (f j) 0 ≡ fourAt s (at j)) → after ≡ s
       rows-unmoved h = either (λ (x : List ℕ). x ≡ s) refl (λ e. rows-same at f s n (h e))
+
+      -- a byte stays, or is one that was put, of which P is known unless it stays too
+      pub bytes-same : (P : ℕ → Type 0) → ((j i : ℕ) → j < n → i < 4 → (getD after (at j + i) 0 ≡ getD s (at j + i) 0) ⊎ P (at j + i))
+          → (q : ℕ) → (getD after q 0 ≡ getD s q 0) ⊎ P q
+      bytes-same P h q =
+          ⊎-elim (λ (r : InRow at n q). rw (r .2 .2) (h (r .0) (r .2 .0) (r .1) (r .2 .1)))
+          (λ (m : (k : ℕ) → k < n → Outside q (at k)). inl (either (λ (x : List ℕ). getD x q 0 ≡ getD s q 0) refl (λ e. byte-kept at f s n q m)))
+          (in-row at n q)
 
       -- a well-formed shelf stays so, if settings and thresholds are such as the types may have
       pub formed-same : wellFormed s ≡ true

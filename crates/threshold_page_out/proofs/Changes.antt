@@ -1,4 +1,4 @@
--- What an accepted Threshold Out page changes, and that it changes nothing else. Assumes nothing.
+-- What a Threshold Out page leaves of a shelf, and what it brings it to. Assumes nothing.
 use mathlib.Core.Path.{_≡_, sym, ap, _∙_}
 use mathlib.Core.Bool.{true}
 use mathlib.Core.List.{List, [], _∷_}
@@ -6,7 +6,7 @@ use mathlib.Core.Logic.{inl}
 use Prim.Native.Nat.{ℕ, _+_, _<_}
 use native.Mathlib.Nat.{add-zero}
 use native.Mathlib.Omega.{arith}
-use lib.ListN.{length, getD}
+use lib.ListN.{length}
 use Rattle.bits.specs.Places.{fourAt}
 use Rattle.bits.specs.Rows.{joined}
 use Rattle.bits.proofs.Logic.{by-case, pick-no}
@@ -16,13 +16,13 @@ use Rattle.element.specs.Types.{had, ordered}
 use Rattle.element.proofs.ThresholdsTaken.{taken-none}
 use Rattle.shelf.specs.Limits.{elementPlace, thresholdsPlace}
 use Rattle.shelf.specs.Types.{elementsOf, kindAt}
-use Rattle.shelf.specs.Elements.{settingsAt, thresholdsAt, readingAt, nominalAt}
+use Rattle.shelf.specs.Elements.{settingsAt, thresholdsAt}
 use Rattle.shelf_formed.specs.Formed.{wellFormed}
 use Rattle.shelf_formed.proofs.ElementPut.{room}
 use Rattle.shelf_formed.proofs.ElementTypes.{front-formed}
 use Rattle.shelf_formed.proofs.FormedShelf.{in-element}
 use Rattle.shelf_formed.proofs.FrontOfShelf.{front, elements-alike}
-use Rattle.shelf_formed.proofs.ElementsPut.{length-same, front-same, four-same, reading-same, nominal-same, row-put, element-same, rows-unmoved, formed-same}
+use Rattle.shelf_formed.proofs.ElementsPut.{length-same, front-same, four-same, row-put, rows-unmoved, formed-same}
 use Rattle.page.specs.Slots.{slotsOf, slotPlace}
 use Rattle.page.specs.Places.{ownSlot, overallSlot, placesOf}
 use Rattle.page.proofs.ElementSlots.{own-there, overall-there}
@@ -47,21 +47,11 @@ module _ (s p : List ℕ) where
   unfolding withThresholds
   configuration-kept = front-same thresholdsPlace 4 thresholds-place (omega arith) f s n (valid s p)
 
-  -- every element keeps settings, reading and nominal
-  module _ (j : ℕ) where
-    pub settings-kept : settingsAt (after s p) j ≡ settingsAt s j
-    unfolding withThresholds settingsAt
-    settings-kept =
-        let e : elementPlace j ≡ elementPlace j + 0 = sym (add-zero (elementPlace j)) in
-        rw e (four-same thresholdsPlace 4 thresholds-place (omega arith) f s n (valid s p) j 0 (omega arith) (inl (omega arith)))
-
-    pub reading-kept : readingAt (after s p) j ≡ readingAt s j
-    unfolding withThresholds
-    reading-kept = reading-same thresholdsPlace 4 thresholds-place (omega arith) f s n (valid s p) j
-
-    pub nominal-kept : nominalAt (after s p) j ≡ nominalAt s j
-    unfolding withThresholds
-    nominal-kept = nominal-same thresholdsPlace 4 thresholds-place (omega arith) f s n (valid s p) j
+  settings-kept : (j : ℕ) → settingsAt (after s p) j ≡ settingsAt s j
+  unfolding withThresholds settingsAt
+  settings-kept j =
+      let e : elementPlace j ≡ elementPlace j + 0 = sym (add-zero (elementPlace j)) in
+      rw e (four-same thresholdsPlace 4 thresholds-place (omega arith) f s n (valid s p) j 0 (omega arith) (inl (omega arith)))
 
   taken-row : (j : ℕ) → j < n → f j ≡ thresholdsAfter s p j
   unfolding takenFrom
@@ -84,16 +74,9 @@ module _ (s p : List ℕ) where
   abbrev pub Silent : ℕ → Type 0
   Silent i = fourAt p (slotPlace i) ≡ 0 ∷ 0 ∷ 0 ∷ 0 ∷ []
 
-  -- an element of which nothing is asked keeps every byte
-  module _ (j : ℕ) (l : j < n) (a : Silent (overallSlot s j)) (b : Silent (ownSlot s j)) where
-    same : thresholdsAfter s p j ≡ thresholdsAt s j
-    unfolding thresholdsAfter placesOf thresholdsAt
-    same = taken-none (thresholdsAt s j) b a
-
-    pub unchosen-kept : (q : ℕ) → q < 16 → getD (after s p) (elementPlace j + q) 0 ≡ getD s (elementPlace j + q) 0
-    unfolding withThresholds thresholdsAt
-    unchosen-kept q m =
-        element-same thresholdsPlace 4 thresholds-place (omega arith) f s n (valid s p) j (λ v. thresholds-reached v j l ∙ same) q m
+  same : (j : ℕ) → Silent (overallSlot s j) → Silent (ownSlot s j) → thresholdsAfter s p j ≡ thresholdsAt s j
+  unfolding thresholdsAfter placesOf thresholdsAt
+  same j a b = taken-none (thresholdsAt s j) b a
 
   -- a well-formed shelf stays well formed
   module _ (w : wellFormed s ≡ true) where
@@ -121,4 +104,4 @@ module _ (s p : List ℕ) where
       rows-unmoved thresholdsPlace 4 thresholds-place (omega arith) f s n (valid s p)
       (λ v j l.
       let e = front-formed s (valid-formed s p v) in
-      taken-row j l ∙ same j l (h (overallSlot s j) (overall-there s j l e)) (h (ownSlot s j) (own-there s j l e)))
+      taken-row j l ∙ same j (h (overallSlot s j) (overall-there s j l e)) (h (ownSlot s j) (own-there s j l e)))

@@ -68,8 +68,8 @@ module _ (s x : List ℕ) (e : front x ≡ front s) (h : length x ≡ length s) 
 abbrev Among : ℕ → ℕ → Type 0
 Among k q = (i : ℕ) × (i < 4) × (q ≡ k + i)
 
-among : (k q : ℕ) → Among k q ⊎ Outside q k
-among k q =
+four-or-other : (k q : ℕ) → Among k q ⊎ Outside q k
+four-or-other k q =
     by-case (ltb q k) (λ a. inr (inl (ltb-true q k a)))
     (λ a.
     let b = ltb-false q k a in
@@ -86,13 +86,13 @@ in-row at (suc n) q =
     (λ (h : (k : ℕ) → k < n → Outside q (at k)).
     ⊎-elim (λ (r : Among (at n) q). inl (n, omega arith, r))
     (λ (o : Outside q (at n)). inr (λ k l. ⊎-elim (λ e. rw e o) (h k) (eq-or-lt-of-le (le-of-suc-le-suc l))))
-    (among (at n) q))
+    (four-or-other (at n) q))
     (in-row at n q)
 
 module _ (at : ℕ → ℕ) (o : ℕ) (place : (j : ℕ) → at j ≡ elementPlace j + o) (low : o + 4 ≤ 8) where
   -- bytes of an element beside the four are beside those of every element
-  beside : (j q w : ℕ) → q + w ≤ 16 → (q + w ≤ o) ⊎ (o + 4 ≤ q) → (k : ℕ) → (elementPlace j + q + w ≤ at k) ⊎ (at k + 4 ≤ elementPlace j + q)
-  beside j q w l h k =
+  beside : (j q : ℕ) → q + 4 ≤ 16 → Apart q o → (k : ℕ) → Apart (elementPlace j + q) (at k)
+  beside j q l h k =
       by-case (ltb j k)
       (λ e. let m = ltb-true j k e in inl (omega (arith, place k)))
       (λ e.
@@ -101,14 +101,14 @@ module _ (at : ℕ → ℕ) (o : ℕ) (place : (j : ℕ) → at j ≡ elementPla
       (λ e2. let n = ltb-true k j e2 in inr (omega (arith, place k)))
       (λ e2.
       let n = ltb-false k j e2 in
-      ⊎-elim (λ (a : q + w ≤ o). inl (omega (arith, place k))) (λ (a : o + 4 ≤ q). inr (omega (arith, place k))) h))
+      ⊎-elim (λ (a : q + 4 ≤ o). inl (omega (arith, place k))) (λ (a : o + 4 ≤ q). inr (omega (arith, place k))) h))
 
   module _ (f : ℕ → List ℕ) (s : List ℕ) (n : ℕ) where
     pub front-after : front (foursPut at f s n) ≡ front s
     front-after = front-kept at f s (elementPlace 0) n (λ k l. omega (arith, place k))
 
     four-after : (j q : ℕ) → q + 4 ≤ 16 → Apart q o → fourAt (foursPut at f s n) (elementPlace j + q) ≡ fourAt s (elementPlace j + q)
-    four-after j q l h = four-kept at f s n (elementPlace j + q) (λ k m. beside j q 4 l h k)
+    four-after j q l h = four-kept at f s n (elementPlace j + q) (λ k m. beside j q l h k)
 
     -- an element that was not reached yet
     pub row-later : (j : ℕ) → n ≤ j → fourAt (foursPut at f s n) (at j) ≡ fourAt s (at j)

@@ -3,10 +3,9 @@
  * A shelf is one block of bytes that the caller owns (docs/LAYOUT.md). The library keeps no state and
  * allocates nothing. Every call takes whatever bytes it is given and answers with a refusal number, 0 if
  * it accepted. A refused call leaves every lent byte as it was, but for `written` and `selects`, which are
- * then 0. No call has to be preceded by a check.
- *
- * A pointer is to as many bytes as its length says, and is not NULL, also where the length is 0. Where
- * a call takes several buffers, they do not overlap.
+ * then 0. No call has to be preceded by a check, but for what C's types cannot say: a pointer is to as
+ * many bytes as its length or its type says, and is not NULL, also where the length is 0; and what one
+ * call is lent does not overlap.
  *
  * Link with libses.a (`rt staticlib ses`, x86-64).
  */
@@ -116,12 +115,16 @@ struct ses_status {
     struct ses_shown entry[SES_MOST_SLOTS];
 };
 
-/* A threshold status page, its entries in the same order. Each is high critical, high warning, low
- * warning, low critical; overall ones are zero. */
+/* The thresholds of an element, as the shelf block stores them and the pages have them. */
+struct ses_limits {
+    uint8_t high_critical, high_warning, low_warning, low_critical;
+};
+
+/* A threshold status page, its entries in the same order; overall ones are zero. */
 struct ses_thresholds {
     uint8_t spare[2];
     uint8_t entries[2];
-    uint8_t entry[SES_MOST_SLOTS][4];
+    struct ses_limits entry[SES_MOST_SLOTS];
 };
 
 /* Is the block a well-formed shelf?  0, or 1 (SES_SHELF_NOT_WELL_FORMED). */

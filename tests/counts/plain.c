@@ -718,7 +718,7 @@ uint8_t plain_rewrite_thresholds(const uint8_t *configuration, size_t configurat
     size_t length = SLOTS + SLOT_LENGTH * slots;
     if (number2(record->entries) != slots)
         return SES_WANTED_LIST;
-    uint8_t refusal = rows_refusal(configuration, record->entry[0]);
+    uint8_t refusal = rows_refusal(configuration, &record->entry[0].high_critical);
     if (refusal != SES_ACCEPTED)
         return refusal;
     if (out_length < length)

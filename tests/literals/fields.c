@@ -178,7 +178,7 @@ static void hold_shown(void)
     hold_none("none of a current sensor", entry[first_current + 1].of.current.none, 6);
 }
 
-/* One sensor of each type, and its thresholds: high critical, high warning, low warning, low critical. */
+/* One sensor of each type, and its thresholds: high critical, high warning, low warning, low critical. Overall elements are zero. */
 static void hold_thresholds(void)
 {
     static const uint8_t three_types[60] = {
@@ -191,6 +191,11 @@ static void hold_thresholds(void)
         0, 0, 0, 0, 20, 12, 7, 18,
         0, 0, 0, 0, 40, 30, 0, 0,
     };
+    static const struct ses_limits named[6] = {
+        [1] = {.high_critical = 75, .high_warning = 65, .low_warning = 25, .low_critical = 20},
+        [3] = {.high_critical = 20, .high_warning = 12, .low_warning = 7, .low_critical = 18},
+        [5] = {.high_critical = 40, .high_warning = 30},
+    };
     struct ses_thresholds record, told;
     struct output out;
     hold("a configuration", ses_read_configuration(three_types, sizeof three_types, configuration), 0);
@@ -198,7 +203,7 @@ static void hold_thresholds(void)
     memset(told.spare, 0, 2);
     told.entries[0] = 0;
     told.entries[1] = 6;
-    memcpy(told.entry, limits + 8, 24);
+    memcpy(told.entry, named, sizeof named);
     fill(&record, sizeof record);
     hold("thresholds", ses_read_thresholds(configuration, sizeof configuration, limits, sizeof limits, &record), 0);
     hold_bytes("thresholds", &record, &told, sizeof record);

@@ -74,6 +74,10 @@ pub num-small : (a : Bool) → num a ≤ 1
 num-small true = omega arith
 num-small false = omega arith
 
+pub num-up : (a b : Bool) → (a ≡ true → b ≡ true) → num a ≤ num b
+num-up true b h = rw (h refl) (omega arith)
+num-up false b h = omega arith
+
 pub nibble-small : (a b c d : Bool) → nibble a b c d < 16
 nibble-small a b c d = omega (arith, num-small a, num-small b, num-small c, num-small d)
 

@@ -5,9 +5,10 @@ pub mod Sums
 pub mod FourPut
 pub mod FoursPut
 pub mod Offence
+pub mod Ends
 pub mod Rows
 pub mod RowStarts
 pub mod Parts
 pub mod RowsPut
-pub mod Every
+pub mod Each
 pub mod Masks

@@ -105,6 +105,16 @@ first-at f (suc n) k h t e =
         let v : f n ≡ true = rw (← q) e in
         rw (first-none f n u, le-ltb n n (omega arith), v) (sym q)
 
+-- a search stops at the bound
+pub first-bound : (f : ℕ → Bool) (n : ℕ) → firstBelow f n ≤ n
+first-bound f zero = omega arith
+first-bound f (suc n) = go (first-bound f n) (ltb (firstBelow f n) n) (f n)
+  where
+    go : firstBelow f n ≤ n → (t b : Bool) → pick t (firstBelow f n) (pick b n (suc n)) ≤ suc n
+    go l true b = omega arith
+    go l false true = omega arith
+    go l false false = omega arith
+
 -- where a search found something, the test passes there, and at no number before
 pub first-passes : (f : ℕ → Bool) (n : ℕ) → firstBelow f n < n → f (firstBelow f n) ≡ true
 first-passes f zero h = absurd (not-suc-le-zero h)

@@ -1,10 +1,10 @@
 -- The search for the first refused byte of rows of four: where it stops, and what it says if it finds none. Assumes nothing.
-use mathlib.Core.Path.{_≡_, sym, _∙_}
-use mathlib.Core.Bool.{true, false}
+use mathlib.Core.Path.{_≡_, refl, sym, _∙_}
+use mathlib.Core.Bool.{Bool, true, false}
 use Prim.Native.Nat.{ℕ, _+_, _<_, _≤_}
 use native.Mathlib.Omega.{arith}
 use borrow.Author.Tests.{ltb-true, lt-ltb, le-ltb}
-use Rattle.bits.specs.Choice.{allBelow, firstBelow, refusedIn, offenceIn}
+use Rattle.bits.specs.Choice.{pick, allBelow, firstBelow, refusedIn, offenceIn}
 use Rattle.bits.proofs.Logic.{pick-yes, fails, first-at, first-none, first-passes, first-fails}
 
 module _ (at g : ℕ → ℕ) (n : ℕ) where
@@ -19,6 +19,11 @@ module _ (at g : ℕ → ℕ) (n : ℕ) where
   refused-none a u =
       let j = first-none (refusedIn g) n a in
       u ∙ sym (rw (j, le-ltb n n (omega arith)))
+
+  -- what a page's own byte 1 is tested for, where that says that the rows end
+  pub first-fine : (t : Bool) → (at n ≡ 1 → ⊥) → pick t (offenceIn at g n) 1 ≡ at n → t ≡ true
+  first-fine true l e = refl
+  first-fine false l e = absurd (l (sym e))
 
   -- where it says that the rows end, no row is refused
   module _ (apart : (i : ℕ) → i < n → at i + 4 ≤ at n) (h : offenceIn at g n ≡ at n) where

@@ -1,12 +1,13 @@
 -- Lists part by part. Assumes nothing.
-use mathlib.Core.Path.{_≡_, sym, ap, ap₂, _∙_}
+use mathlib.Core.Path.{_≡_, refl, sym, ap, ap₂, _∙_}
 use mathlib.Core.List.{List, [], _∷_, _++_, append-assoc, append-nil}
 use Prim.Native.Nat.{ℕ, zero, suc, _+_, _<_, _≤_}
-use native.Mathlib.Nat.{add-zero, zero-add, add-suc}
+use native.Mathlib.Nat.{zero-add, add-assoc}
 use native.Mathlib.Omega.{arith}
 use lib.ListN.{length, getD, replicate, replicate-append-replicate, List·getD-append}
 use lib.Seq.{getD-append-add}
 use Rattle.bits.specs.Rows.{joined, oneAt, bytesAt}
+use Rattle.bits.proofs.Rows.{joined-same, joined-split}
 
 -- lists that are the same part by part
 pub pieces : {a b c d a′ b′ c′ d′ : List ℕ} → a ≡ a′ → b ≡ b′ → c ≡ c′ → d ≡ d′ → a ++ b ++ c ++ d ≡ a′ ++ b′ ++ c′ ++ d′
@@ -22,12 +23,10 @@ get-behind a b n k e = ap (λ (m : ℕ). getD (a ++ b) (m + k) 0) (sym e) ∙ ge
 -- bytes cut in two
 pub bytes-split : (s : List ℕ) (k m n : ℕ) → bytesAt s k (m + n) ≡ bytesAt s k m ++ bytesAt s (k + m) n
 unfolding bytesAt
-bytes-split s k m zero = rw (add-zero, append-nil)
-bytes-split s k m (suc n) =
-    let e : k + (m + n) ≡ k + m + n = omega arith in
-    rw (add-suc m n, e)
-    (ap (λ (r : List ℕ). r ++ (getD s (k + m + n) 0 ∷ [])) (bytes-split s k m n)
-    ∙ append-assoc (joined (oneAt s k) m) (joined (oneAt s (k + m)) n) (getD s (k + m + n) 0 ∷ []))
+bytes-split s k m n =
+    joined-split (oneAt s k) m n
+    ∙ ap (λ (r : List ℕ). joined (oneAt s k) m ++ r)
+    (joined-same (λ i. oneAt s k (m + i)) (oneAt s (k + m)) n (λ i l. ap (λ (j : ℕ). getD s j 0 ∷ []) (sym (add-assoc k m i))))
 
 -- bytes up to row n: those before the first row, and the rows, of any widths
 pub bytes-rows : (s : List ℕ) (at w : ℕ → ℕ) → ((i : ℕ) → at (suc i) ≡ at i + w i) → (n : ℕ)
@@ -42,10 +41,12 @@ bytes-rows s at w h (suc n) =
 
 -- rows of one zero each from n on
 pub zeros-behind : (f : ℕ → List ℕ) (n k : ℕ) → ((i : ℕ) → n ≤ i → f i ≡ 0 ∷ []) → joined f (n + k) ≡ joined f n ++ replicate k 0
-zeros-behind f n zero h = rw (add-zero n) (sym (append-nil (joined f n)))
-zeros-behind f n (suc k) h =
-    let e : k + 1 ≡ suc k = omega arith in
-    ap (joined f) (add-suc n k)
-    ∙ rw (zeros-behind f n k h, h (n + k) (omega arith))
-    (append-assoc (joined f n) (replicate k 0) (0 ∷ [])
-    ∙ ap (λ (r : List ℕ). joined f n ++ r) (replicate-append-replicate k 1 0 ∙ ap (λ (m : ℕ). replicate m 0) e))
+zeros-behind f n k h =
+    joined-split f n k
+    ∙ ap (λ (r : List ℕ). joined f n ++ r) (joined-same (λ i. f (n + i)) (λ i. 0 ∷ []) k (λ i l. h (n + i) (omega arith)) ∙ zeros k)
+  where
+    zeros : (m : ℕ) → joined (λ i. 0 ∷ []) m ≡ replicate m 0
+    zeros zero = refl
+    zeros (suc m) =
+        let e : m + 1 ≡ suc m = omega arith in
+        ap (λ (r : List ℕ). r ++ (0 ∷ [])) (zeros m) ∙ replicate-append-replicate m 1 0 ∙ ap (λ (j : ℕ). replicate j 0) e

@@ -58,6 +58,13 @@ pub joined-same : (f g : ℕ → List ℕ) (n : ℕ) → ((i : ℕ) → i < n �
 joined-same f g zero h = refl
 joined-same f g (suc n) h = rw (joined-same f g n (λ i l. h i (omega arith)), h n (omega arith))
 
+-- rows up to a place, and those behind it
+pub joined-split : (f : ℕ → List ℕ) (a n : ℕ) → joined f (a + n) ≡ joined f a ++ joined (λ i. f (a + i)) n
+joined-split f a zero = rw add-zero (sym (append-nil (joined f a)))
+joined-split f a (suc n) =
+    let e : a + suc n ≡ suc (a + n) = omega arith in
+    rw (e, joined-split f a n) (append-assoc (joined f a) (joined (λ i. f (a + i)) n) (f (a + n)))
+
 -- four bytes are what they are made of
 pub as-four : (f : List ℕ) → length f ≡ 4 → f ≡ fourAt f 0
 as-four [] e = absurd (omega arith)
@@ -104,10 +111,6 @@ four-put s k f e =
     (by-case (leb (k + 4) (length s))
     (λ t. pick-yes _ _ _ t ∙ as-sets s k a b c d ∙ sets-eq (a ∷ b ∷ c ∷ d ∷ []) s k (leb-true (k + 4) (length s) t) ∙ sym (pick-yes _ _ _ t))
     (λ t. pick-no _ _ _ t ∙ sym (pick-no _ _ _ t)))
-
-pub put-next : (p s : List ℕ) (k a b c d : ℕ) → length p ≡ k → k + 4 ≤ length s
-    → putFour (p ++ drop k s) k (a ∷ b ∷ c ∷ d ∷ []) ≡ p ++ (a ∷ b ∷ c ∷ d ∷ []) ++ drop (k + 4) s
-put-next p s k a b c d e h = four-put (p ++ drop k s) k (a ∷ b ∷ c ∷ d ∷ []) refl ∙ bytes-next p s (a ∷ b ∷ c ∷ d ∷ []) k e h
 
 pub length-put-bytes : (s : List ℕ) (k : ℕ) (f : List ℕ) → length (putBytes s k f) ≡ length s
 unfolding putBytes

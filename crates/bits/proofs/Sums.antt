@@ -1,8 +1,8 @@
 -- Sums over the numbers below a bound. Assumes nothing.
-use mathlib.Core.Path.{_≡_, refl, ap, _∙_}
+use mathlib.Core.Path.{_≡_, refl, sym}
 use mathlib.Core.Logic.{⊎-elim}
-use Prim.Native.Nat.{ℕ, zero, suc, _+_, _*_, _<_, _≤_}
-use native.Mathlib.Nat.{not-suc-le-zero, le-of-suc-le-suc, eq-or-lt-of-le, add-zero, add-suc, mul-suc}
+use Prim.Native.Nat.{ℕ, zero, suc, _+_, _-_, _*_, _<_, _≤_}
+use native.Mathlib.Nat.{not-suc-le-zero, le-of-suc-le-suc, eq-or-lt-of-le, add-zero, mul-suc}
 use native.Mathlib.Numerals.{add-one}
 use native.Mathlib.Omega.{arith}
 use Rattle.bits.specs.Choice.{sumBelow}
@@ -30,7 +30,22 @@ sum-bound f b (suc n) h =
     let l = h n (omega arith) in
     rw (mul-suc b n) (omega arith)
 
+-- up to a place, and from it on
+pub sum-split : (f : ℕ → ℕ) (a n : ℕ) → sumBelow f (a + n) ≡ sumBelow f a + sumBelow (λ i. f (a + i)) n
+sum-split f a zero = rw (add-zero a) (sym (add-zero (sumBelow f a)))
+sum-split f a (suc n) =
+    let e : a + suc n ≡ suc (a + n) = omega arith in
+    rw e (omega (arith, sum-split f a n))
+
+-- what more numbers add
+pub sum-up : (f : ℕ → ℕ) (n m : ℕ) → n ≤ m → sumBelow f n ≤ sumBelow f m
+sum-up f n m l =
+    let e : n + (m - n) ≡ m = omega arith in
+    rw (← e) (omega (arith, sum-split f n (m - n)))
+
 -- numbers that are zero from n on add nothing
-pub sum-past : (f : ℕ → ℕ) (n k : ℕ) → ((i : ℕ) → n ≤ i → f i ≡ 0) → sumBelow f (n + k) ≡ sumBelow f n
-sum-past f n zero h = ap (sumBelow f) (add-zero n)
-sum-past f n (suc k) h = ap (sumBelow f) (add-suc n k) ∙ rw (sum-past f n k h, h (n + k) (omega arith)) (add-zero (sumBelow f n))
+pub sum-past : (f : ℕ → ℕ) (n m : ℕ) → n ≤ m → ((i : ℕ) → n ≤ i → i < m → f i ≡ 0) → sumBelow f m ≡ sumBelow f n
+sum-past f n m l h =
+    let e : n + (m - n) ≡ m = omega arith in
+    let z = sum-bound (λ i. f (n + i)) 0 (m - n) (λ i k. omega (arith, h (n + i) (omega arith) (omega arith))) in
+    rw (← e) (omega (arith, sum-split f n (m - n), z))

@@ -16,7 +16,11 @@ abbrev pub bytes : ℕ → ℕ → List ℕ
 bytes zero n = []
 bytes (suc w) n = bytes w (n / 256) ++ (n % 256 ∷ [])
 
--- each number of the list is a byte
+-- each number of a list keeps to P
+abbrev pub Each : (ℕ → Type 0) → List ℕ → Type 0
+Each P [] = Unit {0}
+Each P (x ∷ xs) = P x × Each P xs
+
+-- each is a byte
 abbrev pub Bytes : List ℕ → Type 0
-Bytes [] = Unit {0}
-Bytes (b ∷ bs) = (b < 256) × Bytes bs
+Bytes bs = Each (λ b. b < 256) bs

@@ -11,10 +11,10 @@ use borrow.Author.Tests.{eqb-true}
 use Rattle.bits.specs.Choice.{pick, sumBelow}
 use Rattle.bits.specs.Rows.{joined}
 use Rattle.bits.proofs.Logic.{by-case, pick-no}
+use Rattle.bits.proofs.Sums.{sum-same}
 use Rattle.build_order.specs.Order.{NotAfter}
 use Rattle.build_order.specs.Search.{Search, cost, bestTried, best}
-use Rattle.build_order.proofs.Dictionary.{by-number}
-use Rattle.build_order.proofs.ByCount.{after-refl, after-trans, after-append, after-rows, sum-same}
+use Rattle.build_order.proofs.ByCount.{after-refl, after-trans, after-append, after-rows}
 use Rattle.build_order.proofs.BestRow.{TriedFor, AsGood, Facts, best-first, tried-again}
 use Rattle.element.specs.declared.types.Kind.{Kind}
 use Rattle.element_control.specs.declared.Control.{Control}
@@ -22,7 +22,8 @@ use Rattle.element.specs.Settings.{settingsOf}
 use Rattle.element_control.specs.Control.{selected, controlOf, chosen, settled}
 use Rattle.build_element.specs.Wishes.{silent, requestBytes, requestFor, brings}
 use Rattle.build_element.specs.Parts.{selects, under, part, tried, tries, overallSearch}
-use Rattle.build_element.proofs.RequestSays.{request-selected, request-fine, request-length, request-small, silent-fine}
+use Rattle.build_element.proofs.SoundLayout.{request-small}
+use Rattle.build_element.proofs.RequestSays.{request-selected, request-fine, request-length, silent-fine}
 use Rattle.build_element.proofs.FirstElement.{Row, silent-small, alike-says, selected-acts, row-request, one-first, one-row, one-selects}
 use Rattle.build_element.proofs.Requests.{request-is, reaches-it, code-is}
 
@@ -103,7 +104,7 @@ module _ (k : Kind) (e w : ℕ → List ℕ) (m : ℕ) where
     starts = (refl, silent-small, silent-fine k);
     tries = λ i v l. tried-row k (w i) v;
     long = λ a b ha hb. ha .0 ∙ sym (hb .0);
-    ordered = λ a b ha hb h. by-number a b (ha .0) (hb .0) (ha .1) (hb .1) h;
+    bytes = λ a h. h .1;
     free = refl;
     first = λ a h. omega arith;
     counts = λ i v l. rw (tried-selected k (w i) v) (omega arith);

@@ -1,19 +1,22 @@
 -- Of the control elements that bring an element to a wish, none comes before the one that is sent. Assumes nothing.
 use mathlib.Core.Path.{_≡_, refl, sym, ap, _∙_}
 use mathlib.Core.Bool.{Bool, true, false, not, _&&_}
-use mathlib.Core.List.{List, [], _∷_}
+use mathlib.Core.List.{List}
 use mathlib.Core.Logic.{inl, inr}
-use Prim.Native.Nat.{ℕ, zero, suc, _<_, _≤_}
+use Prim.Native.Nat.{ℕ, _≤_}
 use native.Mathlib.Omega.{arith}
 use lib.Dec.{eqb}
 use lib.ListN.{length, getD}
 use borrow.Author.Tests.{eqb-true, eqb-false, eq-eqb}
 use Rattle.bits.specs.Choice.{pick}
 use Rattle.bits.specs.Bits.{num}
+use Rattle.bits.specs.Numbers.{Bytes}
 use Rattle.bits.specs.Places.{fourAt}
 use Rattle.bits.proofs.Logic.{never, by-case, pick-yes, and-four}
+use Rattle.bits.proofs.Each.{byte-small}
 use Rattle.bits.proofs.Rows.{as-four}
 use Rattle.build_order.specs.Order.{InOrder, NotAfter}
+use Rattle.build_order.proofs.Dictionary.{by-number}
 use Rattle.element.specs.declared.types.Kind.{Kind}
 use Rattle.element.specs.declared.settings.Settings.{Settings}
 use Rattle.element_control.specs.declared.Control.{Control}
@@ -26,22 +29,16 @@ use Rattle.element.proofs.SettingsBothWays.{four}
 use Rattle.element.proofs.StoredSettings.{settings-back, settings-again, settings-storable, acted-storable}
 use Rattle.element_control.proofs.Acting.{settled-length}
 use Rattle.build_element.specs.Wishes.{silent, alike, requestBytes, requestFor, clearing, turning, own, brings, one}
-use Rattle.build_element.proofs.SoundLayout.{request-order, no-stop, request-storable}
+use Rattle.build_element.proofs.SoundLayout.{request-small, request-order, no-stop, request-storable}
 use Rattle.build_element.proofs.Requests.{Reaches, request-again, request-reaches, request-is, reaches-it}
-use Rattle.build_element.proofs.RequestSays.{request-selected, request-fine, request-length, request-small, request-control, silent-control, silent-fine}
+use Rattle.build_element.proofs.RequestSays.{request-selected, request-fine, request-length, request-control, silent-control, silent-fine}
 
 -- four zeros come first
-zero-order : (a : ℕ) (p q : List ℕ) → InOrder p q → InOrder (0 ∷ p) (a ∷ q)
-zero-order zero p q h = inr (refl, h)
-zero-order (suc a) p q h = inl (omega arith)
+pub silent-small : Bytes silent
+silent-small = (omega arith, (omega arith, (omega arith, (omega arith, tt))))
 
-four-zeros : (a b c d : ℕ) → InOrder silent (a ∷ b ∷ c ∷ d ∷ [])
-four-zeros a b c d =
-    zero-order a (0 ∷ 0 ∷ 0 ∷ []) (b ∷ c ∷ d ∷ [])
-    (zero-order b (0 ∷ 0 ∷ []) (c ∷ d ∷ []) (zero-order c (0 ∷ []) (d ∷ []) (zero-order d [] [] tt)))
-
-silent-first : (c : List ℕ) → length c ≡ 4 → InOrder silent c
-silent-first c h = rw (as-four c h) (four-zeros (getD c 0 0) (getD c 1 0) (getD c 2 0) (getD c 3 0))
+silent-first : (c : List ℕ) → length c ≡ 4 → Bytes c → InOrder silent c
+silent-first c e h = by-number silent c (sym e) silent-small h (omega arith)
 
 -- RST SWAP and the speed code are needed where they are sent
 clearing-needed : (s w r : Bool) → s && not w ≡ true → s && not r ≡ w → r ≡ true
@@ -66,7 +63,7 @@ turning-needed s w r h = by-case (eqb s w) (λ e. rw e (omega arith)) (λ e. rw 
 
 -- a control element that a shelf takes
 abbrev pub Row : Kind → List ℕ → Type 0
-Row k c = (length c ≡ 4) × ((i : ℕ) → getD c i 0 < 256) × (offending k c ≡ 4)
+Row k c = (length c ≡ 4) × Bytes c × (offending k c ≡ 4)
 
 cleared : (a b : Bool) → (b ≡ true → a ≡ true) → a && not (a && not b) ≡ b
 cleared true true h = refl
@@ -102,20 +99,13 @@ alike-self w a e = rw (at 0, at 1, at 2, at 3)
     at : (i : ℕ) → eqb (getD a i 0) (getD w i 0) ≡ true
     at i = eq-eqb _ _ (ap (λ (l : List ℕ). getD l i 0) e)
 
-pub silent-small : (i : ℕ) → getD silent i 0 < 256
-silent-small zero = omega arith
-silent-small (suc zero) = omega arith
-silent-small (suc (suc zero)) = omega arith
-silent-small (suc (suc (suc zero))) = omega arith
-silent-small (suc (suc (suc (suc i)))) = omega arith
-
 silent-not : (k : Kind) → selected silent ≡ false
 silent-not k = refl
 
 -- a selected one asks for what it says
 pub row-request : (k : Kind) (c : List ℕ) → Row k c → selected c ≡ true → requestBytes k (settingsOf k c) ≡ c
 row-request k c q t =
-    let b = q .1 in
+    let b = byte-small c (q .1) in
     let v = as-four c (q .0) in
     ap (λ (y : List ℕ). requestBytes k (settingsOf k y)) v
     ∙ request-again k (getD c 0 0) (getD c 1 0) (getD c 2 0) (getD c 3 0) (b 0) (b 3) (ap selected (sym v) ∙ t) (ap (offending k) (sym v) ∙ q .2)
@@ -160,13 +150,13 @@ module _ (k : Kind) (e w : List ℕ) where
 
   -- settings that a type may have, which a SWAP does not keep from e
   abbrev pub Can : Type 0
-  Can = (length w ≡ 4) × ((i : ℕ) → getD w i 0 < 256) × (settingsFormed k w ≡ true) × (x .swap ≡ true → s .swap ≡ true)
+  Can = (length w ≡ 4) × Bytes w × (settingsFormed k w ≡ true) × (x .swap ≡ true → s .swap ≡ true)
 
   module _ (g : Can) where
     stored-is : settingsBytes k x ≡ w
     stored-is =
         let v = as-four w (g .0) in
-        let b = g .1 in
+        let b = byte-small w (g .1) in
         ap (λ (y : List ℕ). settingsBytes k (settingsOf k y)) v
         ∙ settings-again k (getD w 0 0) (getD w 1 0) (getD w 2 0) (getD w 3 0) (b 0) (b 1) (b 2) (b 3) (ap (settingsFormed k) (sym v) ∙ g .2)
         ∙ sym v
@@ -204,7 +194,7 @@ module _ (k : Kind) (e w : List ℕ) where
       where
         there : (b : Bool) → selected d ≡ b → NotAfter 0 silent (num (selected d)) d
         there true u = inl (rw u (omega arith))
-        there false u = inr (rw u, silent-first d (q .0))
+        there false u = inr (rw u, silent-first d (q .0) (q .1))
 
         alone : selected d ≡ true → NotAfter (num (selected (own k e w))) (own k e w) (num (selected d)) d
         alone u = inr (rw (u, own-selected), own-first d q u (sym (effect-on d u) ∙ h))

@@ -2,7 +2,7 @@
 use mathlib.Core.Path.{_≡_, refl, sym, ap, _∙_}
 use mathlib.Core.Bool.{true}
 use mathlib.Core.List.{[], _∷_}
-use Prim.Native.Nat.{ℕ, zero, suc, _+_, _-_, _<_}
+use Prim.Native.Nat.{ℕ, _+_, _-_, _<_}
 use native.Mathlib.Omega.{arith}
 use lib.Dec.{ltb}
 use lib.ListN.{length, getD}
@@ -18,7 +18,7 @@ use Rattle.element_control.specs.Control.{selected, unselected, requesting, con
 use Rattle.element.proofs.SettingsBothWays.{first-clear, second-clear, third-clear, fourth-clear}
 use Rattle.element.proofs.StoredSettings.{sound, reserved-unnamed, Storable, settings-back, length-bytes}
 use Rattle.build_element.specs.Wishes.{silent, withSelect, requestBytes}
-use Rattle.build_element.proofs.SoundLayout.{heading, first-small, stored-small, rest-same}
+use Rattle.build_element.proofs.SoundLayout.{heading, first-small, rest-same}
 
 head-only : (x : ℕ) → x < 256 → only (6 ∷ 5 ∷ 4 ∷ []) x ≡ true → only (7 ∷ 6 ∷ 5 ∷ 4 ∷ []) (128 + x) ≡ true
 head-only = byByteIf (only (6 ∷ 5 ∷ 4 ∷ [])) (λ x. only (7 ∷ 6 ∷ 5 ∷ 4 ∷ []) (128 + x)) refl
@@ -45,14 +45,6 @@ module _ (k : Kind) (r : Settings) where
   pub request-length : length (requestBytes k r) ≡ 4
   unfolding requestBytes
   request-length = refl
-
-  pub request-small : (i : ℕ) → getD (requestBytes k r) i 0 < 256
-  unfolding requestBytes
-  request-small zero = omega (arith, first-small k r)
-  request-small (suc zero) = stored-small k r 1
-  request-small (suc (suc zero)) = stored-small k r 2
-  request-small (suc (suc (suc zero))) = stored-small k r 3
-  request-small (suc (suc (suc (suc i)))) = omega arith
 
   pub request-back : Storable k r → settingsOf k (requestBytes k r) ≡ r
   unfolding requestBytes

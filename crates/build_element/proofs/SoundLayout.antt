@@ -1,11 +1,9 @@
 -- Requests under any layout whose masks are sound: their bytes, the order of those for the same flags, and what an element is sent.
 -- Assumes nothing.
-use mathlib.Core.Path.{_≡_, refl, sym, ap, _∙_}
+use mathlib.Core.Path.{_≡_, refl, ap, _∙_}
 use mathlib.Core.Bool.{Bool, true, false, not, _&&_, _||_}
 use mathlib.Core.List.{List, [], _∷_}
-use mathlib.Core.Logic.{_⊎_, inl, inr, ⊎-elim}
-use Prim.Native.Nat.{ℕ, zero, suc, _+_, _-_, _<_, _≤_}
-use native.Mathlib.Nat.{eq-or-lt-of-le}
+use Prim.Native.Nat.{ℕ, _+_, _-_, _<_, _≤_}
 use native.Mathlib.Omega.{arith}
 use lib.Bits.{bitAnd, bitOr, and-zero-l, and-zero-r, or-lt}
 use lib.Dec.{eqb}
@@ -13,8 +11,11 @@ use lib.ListN.{getD}
 use borrow.Author.Tests.{eqb-true, eqb-false, not-true}
 use Rattle.bits.specs.Choice.{pick, allBelow}
 use Rattle.bits.specs.Bits.{bit, only, nibble, join}
-use Rattle.bits.proofs.Logic.{never, by-case, same, same-eq, implies, byByteIf}
+use Rattle.bits.specs.Numbers.{big, Bytes}
+use Rattle.bits.proofs.Logic.{by-case, same, same-eq, implies, byByteIf}
+use Rattle.bits.proofs.Halves.{num-small, num-up}
 use Rattle.build_order.specs.Order.{InOrder}
+use Rattle.build_order.proofs.Dictionary.{by-number}
 use Rattle.element.specs.declared.types.Kind.{Kind}
 use Rattle.element.specs.declared.layout.Layout.{Layout}
 use Rattle.element.specs.declared.settings.Settings.{Settings}
@@ -27,18 +28,8 @@ use Rattle.element.proofs.StoredSettings.{sound, Storable}
 use Rattle.build_element.specs.Wishes.{withSelect, requestBytes, requestFor, clearing, turning}
 
 -- byte 0 of stored settings has bit 7 clear
-low-half : (a b c : Bool) → nibble false a b c < 8
-low-half true true true = omega arith
-low-half true true false = omega arith
-low-half true false true = omega arith
-low-half true false false = omega arith
-low-half false true true = omega arith
-low-half false true false = omega arith
-low-half false false true = omega arith
-low-half false false false = omega arith
-
 first-low : (a b c : Bool) → join (nibble false a b c) 0 < 128
-first-low a b c = omega (arith, low-half a b c)
+first-low a b c = omega (arith, num-small a, num-small b, num-small c)
 
 -- a byte with bit 7 set and none of the low four
 abbrev pub heading : ℕ → Bool
@@ -48,18 +39,12 @@ head-bit : (i : ℕ) → allBelow (λ a. implies (heading a) (same (bit i a) (bi
     → (a : ℕ) → a < 256 → heading a ≡ true → bit i a ≡ bit i (a - 128)
 head-bit i t a h e = same-eq (bit i a) (bit i (a - 128)) (byByteIf heading (λ a. same (bit i a) (bit i (a - 128))) t a h e)
 
--- the order of two requests for the same flags
-head-order : (p d a b : Bool) → (a ≡ true → b ≡ true)
-    → (128 + join (nibble false p d a) 0 < 128 + join (nibble false p d b) 0) ⊎ (128 + join (nibble false p d a) 0 ≡ 128 + join (nibble false p d b) 0)
-head-order p d true true h = inr refl
-head-order p d true false h = never (sym (h refl))
-head-order p d false true h = inl (omega (arith, low-half p d false, low-half p d true))
-head-order p d false false h = inr refl
+-- the numbers that two requests for the same flags say, the first and the last of their bytes in order
+head-order : (p d a b : Bool) → (a ≡ true → b ≡ true) → 128 + join (nibble false p d a) 0 ≤ 128 + join (nibble false p d b) 0
+head-order p d a b h = omega (arith, num-small p, num-small d, num-small b, num-up a b h)
 
-four-order : (a b c d x y : ℕ) → (a < b) ⊎ (a ≡ b) → (x < y) ⊎ (x ≡ y) → InOrder (a ∷ c ∷ d ∷ x ∷ []) (b ∷ c ∷ d ∷ y ∷ [])
-four-order a b c d x y (inl h) k = inl h
-four-order a b c d x y (inr h) (inl k) = inr (h, inr (refl, inr (refl, inl k)))
-four-order a b c d x y (inr h) (inr k) = inr (h, inr (refl, inr (refl, inr (k, tt))))
+four-order : (a b c d x y : ℕ) → a ≤ b → x ≤ y → big (a ∷ c ∷ d ∷ x ∷ []) ≤ big (b ∷ c ∷ d ∷ y ∷ [])
+four-order a b c d x y h k = omega arith
 
 -- a speed code that is needed has a place where the wanted speed has one
 turning-placed : (s w m : ℕ) → bitAnd w m ≡ w → bitAnd (turning s w) m ≡ turning s w
@@ -71,13 +56,17 @@ turning-placed s w m h = go (eqb s w)
 
 module _ (l : Layout) (h : Sound l) where
   -- stored bytes are bytes, with bit 7 of the first free for SELECT
-  small : (s : Settings) (i : ℕ) → getD (stored l s) i 0 < 256
-  small s zero = omega (arith, first-low (s .prdfail) (s .disabled) (s .swap))
-  small s (suc zero) = kept-small (l .flags1) (h .keeps1) (s .flags1)
-  small s (suc (suc zero)) = kept-small (l .flags2) (h .keeps2) (s .flags2)
-  small s (suc (suc (suc zero))) =
-      or-lt 8 (bitAnd (s .flags3) (l .flags3)) (bitAnd (s .speed) (l .speed)) (kept-small (l .flags3) (h .keeps3) (s .flags3)) (kept-small (l .speed) (h .speeds) (s .speed))
-  small s (suc (suc (suc (suc i)))) = omega arith
+  small : (s : Settings) → Bytes (stored l s)
+  small s = (
+    omega (arith, first-low (s .prdfail) (s .disabled) (s .swap)),
+    (kept-small (l .flags1) (h .keeps1) (s .flags1), (kept-small (l .flags2) (h .keeps2) (s .flags2), (last, tt))),
+  )
+    where
+      last : bitOr (bitAnd (s .flags3) (l .flags3)) (bitAnd (s .speed) (l .speed)) < 256
+      last = or-lt 8 (bitAnd (s .flags3) (l .flags3)) (bitAnd (s .speed) (l .speed)) (kept-small (l .flags3) (h .keeps3) (s .flags3)) (kept-small (l .speed) (h .speeds) (s .speed))
+
+  select-small : (s : Settings) → Bytes (withSelect (stored l s))
+  select-small s = (omega (arith, first-low (s .prdfail) (s .disabled) (s .swap)), small s .1)
 
   -- which does not change what the other bits say
   select-same : (a b c d : ℕ) → a < 256 → heading a ≡ true → said l (a ∷ b ∷ c ∷ d ∷ []) ≡ said l ((a - 128) ∷ b ∷ c ∷ d ∷ [])
@@ -102,15 +91,15 @@ module _ (l : Layout) (h : Sound l) where
       ∙ mix-sum (l .flags3) (l .speed) (h .keeps3) (h .speeds) (h .three) (h .apart) (bitAnd f (l .flags3)) n (kept-twice (l .flags3) (h .keeps3) f) p
 
   last-order : (f m n : ℕ) → m ≤ n → bitAnd m (l .speed) ≡ m → bitAnd n (l .speed) ≡ n
-      → let x : ℕ = bitOr (bitAnd f (l .flags3)) (bitAnd m (l .speed)) in
-      let y : ℕ = bitOr (bitAnd f (l .flags3)) (bitAnd n (l .speed)) in (x < y) ⊎ (x ≡ y)
-  last-order f m n le p q =
-      rw (coded f m p, coded f n q) (⊎-elim (λ e. inr (ap (λ x. bitAnd f (l .flags3) + x) e)) (λ (e : m < n). inl (omega arith)) (eq-or-lt-of-le le))
+      → bitOr (bitAnd f (l .flags3)) (bitAnd m (l .speed)) ≤ bitOr (bitAnd f (l .flags3)) (bitAnd n (l .speed))
+  last-order f m n le p q = rw (coded f m p, coded f n q) (omega arith)
 
   -- requests for the same flags stand in the dictionary as RST SWAP and then the speed code
   layout-order : (w : Settings) (a b : Bool) (m n : ℕ) → (a ≡ true → b ≡ true) → m ≤ n → bitAnd m (l .speed) ≡ m → bitAnd n (l .speed) ≡ n
       → InOrder (withSelect (stored l (requestFor w a m))) (withSelect (stored l (requestFor w b n)))
-  layout-order w a b m n i le p q = four-order _ _ _ _ _ _ (head-order (w .prdfail) (w .disabled) a b i) (last-order (w .flags3) m n le p q)
+  layout-order w a b m n i le p q =
+      by-number (withSelect (stored l (requestFor w a m))) (withSelect (stored l (requestFor w b n))) refl (select-small (requestFor w a m)) (select-small (requestFor w b n))
+      (four-order _ _ _ _ _ _ (head-order (w .prdfail) (w .disabled) a b i) (last-order (w .flags3) m n le p q))
 
   -- no speed that may be is 0 where another is not
   runs : (e w : List ℕ) → eqb (l .speed) 0 || not (eqb (bitAnd (getD w 3 0) (l .speed)) 0) ≡ true → said l w .speed ≡ 0 → said l e .speed ≡ 0
@@ -125,9 +114,9 @@ module _ (k : Kind) where
   unfolding settingsBytes
   first-small s = first-low (s .prdfail) (s .disabled) (s .swap)
 
-  pub stored-small : (s : Settings) (i : ℕ) → getD (settingsBytes k s) i 0 < 256
-  unfolding settingsBytes
-  stored-small = small (layoutOf k) (sound k)
+  pub request-small : (s : Settings) → Bytes (requestBytes k s)
+  unfolding requestBytes settingsBytes
+  request-small = select-small (layoutOf k) (sound k)
 
   pub rest-same : (a b c d : ℕ) → a < 256 → heading a ≡ true → settingsOf k (a ∷ b ∷ c ∷ d ∷ []) ≡ settingsOf k ((a - 128) ∷ b ∷ c ∷ d ∷ [])
   unfolding settingsOf

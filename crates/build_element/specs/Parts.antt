@@ -5,7 +5,6 @@ use lib.Dec.{eqb, leb}
 use Rattle.bits.specs.Choice.{pick}
 use Rattle.bits.specs.Bits.{num}
 use Rattle.bits.specs.Rows.{joined}
-use Rattle.build_order.specs.Order.{asNumber}
 use Rattle.build_order.specs.Search.{Search}
 use Rattle.element.specs.declared.types.Kind.{Kind}
 use Rattle.element.specs.declared.settings.Settings.{Settings}
@@ -43,5 +42,4 @@ overallSearch k e w m = record {
   tries = tries k;
   serves = λ o i. brings k (controlOf k o) (e i) (w i);
   alone = selects;
-  number = asNumber;
 }

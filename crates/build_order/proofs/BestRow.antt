@@ -11,11 +11,12 @@ use lib.ListN.{length}
 use borrow.Author.Tests.{eqb-true, ltb-true, ltb-false, le-ltb, eq-eqb, ne-eqb}
 use Rattle.bits.specs.Choice.{firstBelow, sumBelow}
 use Rattle.bits.specs.Bits.{num}
+use Rattle.bits.specs.Numbers.{big, Bytes}
 use Rattle.bits.proofs.Logic.{never, by-case, pick-yes, pick-no, and-left, and-right, first-passes, first-fails}
 use Rattle.bits.proofs.Halves.{num-small}
-use Rattle.build_order.specs.Order.{InOrder, NotAfter, sooner}
+use Rattle.build_order.specs.Order.{NotAfter, sooner}
 use Rattle.build_order.specs.Search.{Search, cost, better, bestTried, bestOf, best}
-use Rattle.build_order.proofs.Dictionary.{order-refl, order-front}
+use Rattle.build_order.proofs.Dictionary.{order-refl, order-front, by-number}
 
 -- how many elements a row leaves: no more than one that serves no other, at most all, and all where it serves none
 not-served : (f g : ℕ → Bool) (n : ℕ) → ((i : ℕ) → i < n → g i ≡ true → f i ≡ true) → sumBelow (λ i. num (not (f i))) n ≤ sumBelow (λ i. num (not (g i))) n
@@ -37,7 +38,7 @@ none-served f (suc n) h = rw (h n (omega arith)) (omega (arith, none-served f n 
 module _ (q : Search) where
   -- a is not after b: it costs less, or as much and is not the larger number
   abbrev pub Ranks : List ℕ → List ℕ → Type 0
-  Ranks a b = (cost q a < cost q b) ⊎ ((cost q a ≡ cost q b) × (q .number a ≤ q .number b))
+  Ranks a b = (cost q a < cost q b) ⊎ ((cost q a ≡ cost q b) × (big a ≤ big b))
 
   ranks-refl : (a : List ℕ) → Ranks a a
   ranks-refl a = inr (refl, omega arith)
@@ -48,19 +49,19 @@ module _ (q : Search) where
   ranks-trans a b c (inr h) (inl l) = inl (omega (arith, l, h .0))
   ranks-trans a b c (inr h) (inr l) = inr (h .0 ∙ l .0, omega (arith, h .1, l .1))
 
-  ranks-le : (a b : List ℕ) → cost q a ≤ cost q b → q .number a ≤ q .number b → Ranks a b
+  ranks-le : (a b : List ℕ) → cost q a ≤ cost q b → big a ≤ big b → Ranks a b
   ranks-le a b h l = ⊎-elim (λ (e : cost q a ≡ cost q b). inr (e, l)) (λ (e : cost q a < cost q b). inl e) (eq-or-lt-of-le h)
 
   -- the test of the two
   abbrev test : List ℕ → List ℕ → Bool
-  test b a = sooner (cost q b) (q .number b) (cost q a) (q .number a)
+  test b a = sooner (cost q b) (big b) (cost q a) (big a)
 
   soon : (a b : List ℕ) → test b a ≡ true → Ranks b a
   soon a b t =
       by-case (ltb (cost q b) (cost q a)) (λ l. inl (ltb-true _ _ l))
       (λ l.
-      let u : eqb (cost q b) (cost q a) && ltb (q .number b) (q .number a) ≡ true = rw l at t in
-      let n = ltb-true (q .number b) (q .number a) (and-right (eqb (cost q b) (cost q a)) _ u) in
+      let u : eqb (cost q b) (cost q a) && ltb (big b) (big a) ≡ true = rw l at t in
+      let n = ltb-true (big b) (big a) (and-right (eqb (cost q b) (cost q a)) _ u) in
       inr (eqb-true (cost q b) (cost q a) (and-left _ _ u), omega arith))
 
   late : (a b : List ℕ) → test b a ≡ false → Ranks a b
@@ -73,11 +74,11 @@ module _ (q : Search) where
       early : ltb (cost q b) (cost q a) ≡ true → test b a ≡ true
       early l = rw l
 
-      behind : ltb (cost q b) (cost q a) ≡ false → cost q a ≡ cost q b → q .number a ≤ q .number b
+      behind : ltb (cost q b) (cost q a) ≡ false → cost q a ≡ cost q b → big a ≤ big b
       behind l c =
           let e : eqb (cost q b) (cost q a) ≡ true = eq-eqb _ _ (sym c) in
-          let u : ltb (q .number b) (q .number a) ≡ false = rw (l, e) at t in
-          ltb-false (q .number b) (q .number a) u
+          let u : ltb (big b) (big a) ≡ false = rw (l, e) at t in
+          ltb-false (big b) (big a) u
 
   not-sooner : (a b : List ℕ) → Ranks a b → test b a ≡ false
   not-sooner a b (inl h) =
@@ -86,7 +87,7 @@ module _ (q : Search) where
       rw (l, e)
   not-sooner a b (inr h) =
       let l : ltb (cost q b) (cost q a) ≡ false = le-ltb (cost q b) (cost q a) (omega (arith, h .0)) in
-      let n : ltb (q .number b) (q .number a) ≡ false = le-ltb (q .number b) (q .number a) (h .1) in
+      let n : ltb (big b) (big a) ≡ false = le-ltb (big b) (big a) (h .1) in
       let e : eqb (cost q b) (cost q a) ≡ true = eq-eqb _ _ (sym (h .0)) in
       rw (l, e, n)
 
@@ -152,7 +153,7 @@ module _ (q : Search) where
 
   -- b serves what a does, and neither costs more nor stands later
   abbrev pub AsGood : List ℕ → List ℕ → Type 0
-  AsGood b a = ((i : ℕ) → i < q .many → q .serves a i ≡ true → q .serves b i ≡ true) × (q .alone b ≤ q .alone a) × (q .number b ≤ q .number a)
+  AsGood b a = ((i : ℕ) → i < q .many → q .serves a i ≡ true → q .serves b i ≡ true) × (q .alone b ≤ q .alone a) × (big b ≤ big a)
 
   as-good : (b a : List ℕ) → AsGood b a → Ranks b a
   as-good b a h = ranks-le b a fewer (h .2)
@@ -190,12 +191,12 @@ module _ (q : Search) where
     pub record Facts : Type 0 where
       pub starts : Row (q .start)
       pub tries : (i v : ℕ) → v < q .tries (q .wanted i) → Row (q .tried (q .wanted i) v)
-      -- they are as long as each other, and stand in the dictionary as their numbers
+      -- they are bytes, as many in each
       pub long : (a b : List ℕ) → Row a → Row b → length a ≡ length b
-      pub ordered : (a b : List ℕ) → Row a → Row b → q .number a ≤ q .number b → InOrder a b
+      pub bytes : (a : List ℕ) → Row a → Bytes a
       -- the start costs nothing by itself and is the first in the dictionary; what is tried costs something
       pub free : q .alone (q .start) ≡ 0
-      pub first : (a : List ℕ) → Row a → q .number (q .start) ≤ q .number a
+      pub first : (a : List ℕ) → Row a → big (q .start) ≤ big a
       pub counts : (i v : ℕ) → v < q .tries (q .wanted i) → 1 ≤ q .alone (q .tried (q .wanted i) v)
       -- for a row that serves an element, one that is as good is tried for that element
       pub covered : (a : List ℕ) → Row a → (i : ℕ) → i < q .many → q .serves a i ≡ true → (b : List ℕ) × TriedFor i b × AsGood b a
@@ -249,6 +250,7 @@ module _ (q : Search) where
           go (inr h) =
               inr (
                 h .0,
-                order-front (best q) a (rest (best q)) (rest a) (f .long (best q) a found r) (f .ordered (best q) a found r (h .1))
+                order-front (best q) a (rest (best q)) (rest a) (f .long (best q) a found r)
+                    (by-number (best q) a (f .long (best q) a found r) (f .bytes (best q) found) (f .bytes a r) (h .1))
                     (λ e. rw e (order-refl (rest a))),
               )

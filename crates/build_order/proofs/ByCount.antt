@@ -1,9 +1,8 @@
 -- The order by count and dictionary: two that are each not after the other are one, and it goes part by part. Assumes nothing.
-use mathlib.Core.Path.{_≡_, refl, sym, ap₂, _∙_}
-use mathlib.Core.List.{List, [], _++_, append-assoc, append-nil}
+use mathlib.Core.Path.{_≡_, refl, sym, _∙_}
+use mathlib.Core.List.{List, [], _++_}
 use mathlib.Core.Logic.{inl, inr}
 use Prim.Native.Nat.{ℕ, zero, suc, _+_, _<_}
-use native.Mathlib.Nat.{add-zero}
 use native.Mathlib.Omega.{arith}
 use lib.ListN.{length}
 use Rattle.bits.specs.Choice.{sumBelow}
@@ -43,20 +42,3 @@ module _ (count : List ℕ → ℕ) (w : ℕ) (f g : ℕ → List ℕ) (hf : (i 
       (length-joined f w hf n ∙ sym (length-joined g w hg n))
       (after-rows n (λ i l. h i (omega arith)))
       (h n (omega arith))
-
--- rows up to a place, and those behind it
-pub joined-split : (f : ℕ → List ℕ) (a n : ℕ) → joined f (a + n) ≡ joined f a ++ joined (λ i. f (a + i)) n
-joined-split f a zero = rw add-zero (sym (append-nil (joined f a)))
-joined-split f a (suc n) =
-    let e : a + suc n ≡ suc (a + n) = omega arith in
-    rw (e, joined-split f a n) (append-assoc (joined f a) (joined (λ i. f (a + i)) n) (f (a + n)))
-
-pub sum-same : (f g : ℕ → ℕ) (n : ℕ) → ((i : ℕ) → i < n → f i ≡ g i) → sumBelow f n ≡ sumBelow g n
-sum-same f g zero h = refl
-sum-same f g (suc n) h = ap₂ _+_ (sum-same f g n (λ i l. h i (omega arith))) (h n (omega arith))
-
-pub sum-split : (f : ℕ → ℕ) (a n : ℕ) → sumBelow f (a + n) ≡ sumBelow f a + sumBelow (λ i. f (a + i)) n
-sum-split f a zero = rw add-zero (sym (add-zero (sumBelow f a)))
-sum-split f a (suc n) =
-    let e : a + suc n ≡ suc (a + n) = omega arith in
-    rw e (omega (arith, sum-split f a n))

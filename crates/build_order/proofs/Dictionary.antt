@@ -1,15 +1,14 @@
--- The dictionary order: two lists that are each not behind the other are one, and four bytes stand as the numbers that they say.
+-- The dictionary order: two lists that are each not behind the other are one, and bytes stand as the numbers that they say.
 -- Assumes nothing.
 use mathlib.Core.Path.{_≡_, refl, ap₂, _∙_}
 use mathlib.Core.List.{List, [], _∷_, _++_}
-use mathlib.Core.Logic.{inl, inr, ⊎-elim}
-use Prim.Native.Nat.{ℕ, _<_, _≤_}
+use mathlib.Core.Logic.{_⊎_, inl, inr, ⊎-elim}
+use Prim.Native.Nat.{ℕ, _+_, _*_, _<_, _≤_}
 use native.Mathlib.Nat.{eq-or-lt-of-le}
 use native.Mathlib.Omega.{arith}
-use lib.ListN.{length, getD}
-use Rattle.bits.specs.Numbers.{big}
-use Rattle.bits.proofs.Rows.{as-four}
-use Rattle.build_order.specs.Order.{InOrder, asNumber}
+use lib.ListN.{length}
+use Rattle.bits.specs.Numbers.{bigFrom, big, Bytes}
+use Rattle.build_order.specs.Order.{InOrder}
 
 pub order-refl : (p : List ℕ) → InOrder p p
 order-refl [] = tt
@@ -49,29 +48,25 @@ order-front (a ∷ p) [] x y n h k = absurd h
 order-front (a ∷ p) (b ∷ q) x y n (inl h) k = inl h
 order-front (a ∷ p) (b ∷ q) x y n (inr h) k = inr (h .0, order-front p q x y (omega arith) (h .1) (λ e. k (ap₂ _∷_ (h .0) e)))
 
-four-by-number : (a b c d x y z v : ℕ) → a < 256 → b < 256 → c < 256 → d < 256 → x < 256 → y < 256 → z < 256 → v < 256
-    → big (a ∷ b ∷ c ∷ d ∷ []) ≤ big (x ∷ y ∷ z ∷ v ∷ []) → InOrder (a ∷ b ∷ c ∷ d ∷ []) (x ∷ y ∷ z ∷ v ∷ [])
-four-by-number a b c d x y z v ha hb hc hd hx hy hz hv h =
-    ⊎-elim
-    (λ (e : a ≡ x).
-    inr (
-      e,
-      ⊎-elim
-          (λ (f : b ≡ y).
-          inr (
-            f,
-            ⊎-elim (λ (g : c ≡ z). inr (g, ⊎-elim (λ (i : d ≡ v). inr (i, tt)) (λ (i : d < v). inl i) (eq-or-lt-of-le (omega arith)))) (λ (g : c < z). inl g)
-                (eq-or-lt-of-le (omega arith)),
-          ))
-          (λ (f : b < y). inl f)
-          (eq-or-lt-of-le (omega arith)),
-    ))
-    (λ (e : a < x). inl e)
-    (eq-or-lt-of-le (omega arith))
+-- numbers that bytes say after those that said m and n, as many after each
+from-number : (p q : List ℕ) (m n : ℕ) → length p ≡ length q → Bytes p → Bytes q → bigFrom m p ≤ bigFrom n q → (m < n) ⊎ ((m ≡ n) × InOrder p q)
+from-number [] [] m n e hp hq h = ⊎-elim (λ (k : m ≡ n). inr (k, tt)) (λ (k : m < n). inl k) (eq-or-lt-of-le h)
+from-number [] (b ∷ q) m n e hp hq h = absurd (omega arith)
+from-number (a ∷ p) [] m n e hp hq h = absurd (omega arith)
+from-number (a ∷ p) (b ∷ q) m n e hp hq h = go (from-number p q (m * 256 + a) (n * 256 + b) (omega arith) (hp .1) (hq .1) h)
+  where
+    equal : m * 256 + a ≡ n * 256 + b → InOrder p q → (m ≡ n) × InOrder (a ∷ p) (b ∷ q)
+    equal k r = let x : m ≡ n = omega (arith, hp .0, hq .0) in let y : a ≡ b = omega arith in (x, inr (y, r))
 
--- four bytes
-pub by-number : (p q : List ℕ) → length p ≡ 4 → length q ≡ 4 → ((i : ℕ) → getD p i 0 < 256) → ((i : ℕ) → getD q i 0 < 256) → asNumber p ≤ asNumber q → InOrder p q
-by-number p q lp lq hp hq h =
-    rw (as-four p lp, as-four q lq)
-    (four-by-number (getD p 0 0) (getD p 1 0) (getD p 2 0) (getD p 3 0) (getD q 0 0) (getD q 1 0) (getD q 2 0) (getD q 3 0)
-    (hp 0) (hp 1) (hp 2) (hp 3) (hq 0) (hq 1) (hq 2) (hq 3) h)
+    less : m * 256 + a < n * 256 + b → (m < n) ⊎ ((m ≡ n) × InOrder (a ∷ p) (b ∷ q))
+    less k =
+        ⊎-elim (λ (x : m ≡ n). inr (x, inl (let y : a < b = omega arith in y))) (λ (x : m < n). inl x)
+        (eq-or-lt-of-le (let y : m ≤ n = omega (arith, hp .0, hq .0) in y))
+
+    go : (m * 256 + a < n * 256 + b) ⊎ ((m * 256 + a ≡ n * 256 + b) × InOrder p q) → (m < n) ⊎ ((m ≡ n) × InOrder (a ∷ p) (b ∷ q))
+    go (inl k) = less k
+    go (inr k) = inr (equal (k .0) (k .1))
+
+-- bytes stand in the dictionary as the big-endian numbers that they say, at every width
+pub by-number : (p q : List ℕ) → length p ≡ length q → Bytes p → Bytes q → big p ≤ big q → InOrder p q
+by-number p q e hp hq h = ⊎-elim (λ (k : 0 < 0). absurd (omega arith)) (λ k. k .1) (from-number p q 0 0 e hp hq h)

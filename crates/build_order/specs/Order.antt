@@ -5,8 +5,6 @@ use mathlib.Core.List.{List, [], _∷_}
 use mathlib.Core.Logic.{_⊎_}
 use Prim.Native.Nat.{ℕ, _<_}
 use lib.Dec.{eqb, ltb}
-use Rattle.bits.specs.Numbers.{big}
-use Rattle.bits.specs.Places.{fourAt}
 
 -- p stands before q in the dictionary, or is q
 abbrev pub InOrder : List ℕ → List ℕ → Type 0
@@ -17,10 +15,6 @@ InOrder (a ∷ p) (b ∷ q) = (a < b) ⊎ ((a ≡ b) × InOrder p q)
 -- p with the count m comes before q with the count n, or is q: it counts less, or as much and is not behind in the dictionary
 abbrev pub NotAfter : ℕ → List ℕ → ℕ → List ℕ → Type 0
 NotAfter m p n q = (m < n) ⊎ ((m ≡ n) × InOrder p q)
-
--- four bytes stand in the dictionary as the numbers that they say
-abbrev pub asNumber : List ℕ → ℕ
-asNumber p = big (fourAt p 0)
 
 -- the count m comes before the count n, or is the same and x is the smaller number
 abbrev pub sooner : ℕ → ℕ → ℕ → ℕ → Bool

@@ -4,6 +4,7 @@ use mathlib.Core.List.{List}
 use Prim.Native.Nat.{ℕ, zero, suc, _+_}
 use Rattle.bits.specs.Choice.{pick, sumBelow}
 use Rattle.bits.specs.Bits.{num}
+use Rattle.bits.specs.Numbers.{big}
 use Rattle.build_order.specs.Order.{sooner}
 
 -- what is searched
@@ -17,16 +18,16 @@ pub record Search : Type 0 where
   pub tries : List ℕ → ℕ
   -- whether a row serves element i, which then needs nothing of its own
   pub serves : List ℕ → ℕ → Bool
-  -- what a row costs by itself, and the number by which it stands in the dictionary
+  -- what a row costs by itself
   pub alone : List ℕ → ℕ
-  pub number : List ℕ → ℕ
 
 -- what a row costs: by itself, and one for each element that it does not serve
 unfoldable pub cost : Search → List ℕ → ℕ
 cost q a = q .alone a + sumBelow (λ i. num (not (q .serves a i))) (q .many)
 
+-- of rows that cost as much the one that says the smaller number, which is the first in the dictionary
 unfoldable pub better : Search → List ℕ → List ℕ → List ℕ
-better q a b = pick (sooner (cost q b) (q .number b) (cost q a) (q .number a)) b a
+better q a b = pick (sooner (cost q b) (big b) (cost q a) (big a)) b a
 
 -- the best of a and the first v of what is tried for the record x
 abbrev pub bestTried : Search → List ℕ → List ℕ → ℕ → List ℕ

@@ -13,7 +13,8 @@ use Rattle.bits.specs.Bits.{num}
 use Rattle.bits.proofs.Halves.{num-small}
 use Rattle.bits.proofs.Logic.{by-case, pick-yes, pick-no, fails, first-none, first-at, first-passes}
 use Rattle.element_control.specs.Control.{controlOf}
-use Rattle.build_order.specs.Order.{asNumber, sooner}
+use Rattle.bits.specs.Numbers.{big}
+use Rattle.build_order.specs.Order.{sooner}
 use Rattle.build_order.specs.Search.{Search, cost, better, bestTried, bestOf, best}
 use Rattle.build_order.proofs.BestRow.{best-again, best-none}
 use Rattle.build_element.specs.Wishes.{silent, alike, brings}
@@ -89,8 +90,8 @@ module _ (s w : List ℕ) (at : Slot) where
     counted-all i z g = g ∙ ap counted z
 
   -- the better of the best so far and o
-  module _ (b : Candidate) (o : List ℕ) {n : ℕ} {d : Bool} (h : n ≡ costOf s w at o) (g : d ≡ sooner n (asNumber o) (b .selects) (asNumber (b .overall))) where
-    told : {t : Bool} → d ≡ t → sooner (costOf s w at o) (asNumber o) (b .selects) (asNumber (b .overall)) ≡ t
+  module _ (b : Candidate) (o : List ℕ) {n : ℕ} {d : Bool} (h : n ≡ costOf s w at o) (g : d ≡ sooner n (big o) (b .selects) (big (b .overall))) where
+    told : {t : Bool} → d ≡ t → sooner (costOf s w at o) (big o) (b .selects) (big (b .overall)) ≡ t
     told e = rw (← h) (sym g ∙ e)
 
     pub one-better : d ≡ true → record { overall = o; selects = n } ≡ triedOne s w at b o
@@ -103,7 +104,7 @@ module _ (s w : List ℕ) (at : Slot) where
 
   ranked-better : (a o : List ℕ) → triedOne s w at (ranked s w at a) o ≡ ranked s w at (better q a o)
   unfolding triedOne better costOf
-  ranked-better a o = by-case (sooner (cost q o) (asNumber o) (cost q a) (asNumber a)) (λ t. rw t) (λ t. rw t)
+  ranked-better a o = by-case (sooner (cost q o) (big o) (cost q a) (big a)) (λ t. rw t) (λ t. rw t)
 
   -- over what is tried for one record
   module _ (y a : List ℕ) where

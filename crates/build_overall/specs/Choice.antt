@@ -5,7 +5,8 @@ use Prim.Native.Nat.{ℕ, _+_, _*_, _-_, _≤_}
 use lib.Dec.{ltb}
 use lib.ListN.{length}
 use Rattle.bits.specs.Choice.{pick, firstBelow}
-use Rattle.build_order.specs.Order.{asNumber, sooner}
+use Rattle.bits.specs.Numbers.{big}
+use Rattle.build_order.specs.Order.{sooner}
 use Rattle.build_order.specs.Search.{Search, cost, bestTried, bestOf, best}
 use Rattle.build_element.specs.Wishes.{alike}
 use Rattle.build_element.specs.Parts.{tries, overallSearch}
@@ -39,7 +40,7 @@ ranked s w at o = record { overall = o; selects = costOf s w at o }
 
 -- the better of the best so far and o
 unfoldable pub triedOne : List ℕ → List ℕ → Slot → Candidate → List ℕ → Candidate
-triedOne s w at b o = pick (sooner (costOf s w at o) (asNumber o) (b .selects) (asNumber (b .overall))) (ranked s w at o) b
+triedOne s w at b o = pick (sooner (costOf s w at o) (big o) (b .selects) (big (b .overall))) (ranked s w at o) b
 
 -- the best of a and what is tried for the record x
 unfoldable pub bestAfter : List ℕ → List ℕ → Slot → List ℕ → List ℕ → List ℕ

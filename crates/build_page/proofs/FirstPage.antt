@@ -11,9 +11,9 @@ use Rattle.bits.specs.Numbers.{bytes, Bytes}
 use Rattle.bits.specs.Places.{fourAt}
 use Rattle.bits.specs.Rows.{joined}
 use Rattle.bits.proofs.Rows.{fours}
+use Rattle.bits.proofs.Sums.{sum-same}
 use Rattle.build_order.specs.Order.{InOrder, NotAfter}
 use Rattle.build_order.proofs.Dictionary.{order-refl, order-append}
-use Rattle.build_order.proofs.ByCount.{sum-same}
 use Rattle.refusals.specs.declared.Answer.the-variants.{Accepted}
 use Rattle.refusals.proofs.AcceptedTests.{held-both}
 use Rattle.build_element.specs.Parts.{selects}

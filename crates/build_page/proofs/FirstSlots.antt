@@ -2,22 +2,24 @@
 use mathlib.Core.Path.{_≡_, refl, sym, ap, ap₂, _∙_}
 use mathlib.Core.Bool.{Bool, true, false}
 use mathlib.Core.List.{List, [], _++_}
-use Prim.Native.Nat.{ℕ, zero, suc, _+_, _*_, _-_, _<_, _≤_}
+use Prim.Native.Nat.{ℕ, zero, suc, _+_, _*_, _<_, _≤_}
 use native.Mathlib.Nat.{add-zero}
 use native.Mathlib.Numerals.{add-one}
 use native.Mathlib.Omega.{arith}
-use lib.ListN.{length, getD}
+use lib.ListN.{length}
 use borrow.Author.Tests.{ltb-false}
 use Rattle.bits.specs.Choice.{pick, sumBelow}
 use Rattle.bits.specs.Numbers.{Bytes}
 use Rattle.bits.specs.Places.{fourAt}
 use Rattle.bits.specs.Rows.{joined}
 use Rattle.bits.proofs.Logic.{first-small}
-use Rattle.bits.proofs.Rows.{joined-four, joined-same, length-joined}
+use Rattle.bits.proofs.Each.{four-small}
+use Rattle.bits.proofs.Rows.{joined-four, joined-same, joined-split, length-joined}
+use Rattle.bits.proofs.Sums.{sum-same, sum-split}
 use Rattle.build_order.specs.Order.{NotAfter}
 use Rattle.build_order.specs.Search.{cost, best}
 use Rattle.build_order.proofs.BestRow.{best-row}
-use Rattle.build_order.proofs.ByCount.{after-refl, after-append, joined-split, sum-same, sum-split}
+use Rattle.build_order.proofs.ByCount.{after-refl, after-append}
 use Rattle.element.specs.declared.types.Kind.{Kind}
 use Rattle.element_control.specs.Control.{selected, offending, controlOf, chosen, settled}
 use Rattle.element.proofs.StoredSettings.{reserved-unnamed}
@@ -32,9 +34,7 @@ use Rattle.shelf_formed.specs.Formed.{frontFormed}
 use Rattle.shelf_formed.proofs.ElementTypes.{front-formed}
 use Rattle.page.specs.Slots.{slotsOf, startOf, slotType, slotAt, slotPlace}
 use Rattle.page.specs.Places.{placesOf}
-use Rattle.page.proofs.SlotsBefore.{start-none, start-next}
-use Rattle.page.proofs.ElementSlots.{start-up}
-use Rattle.page.proofs.HeaderBothWays.{byte-small}
+use Rattle.page.proofs.SlotsBefore.{start-none, start-next, start-up}
 use Rattle.control_page.specs.Tests.{slotOffending, valid}
 use Rattle.control_page.specs.Brought.{settingsAfter, broughtTo}
 use Rattle.control_page.proofs.ValidPage.{valid-formed, valid-slot}
@@ -52,13 +52,6 @@ four-or-less k c = go (selected c) (rw (← (reserved-unnamed k c)) (first-small
     go : (t : Bool) {n : ℕ} → n ≤ 4 → pick t n 4 ≤ 4
     go true h = h
     go false h = omega arith
-
-pub four-small : (q : List ℕ) → Bytes q → (m i : ℕ) → getD (fourAt q m) i 0 < 256
-four-small q h m zero = byte-small q h m
-four-small q h m (suc zero) = byte-small q h (m + 1)
-four-small q h m (suc (suc zero)) = byte-small q h (m + 2)
-four-small q h m (suc (suc (suc zero))) = byte-small q h (m + 3)
-four-small q h m (suc (suc (suc (suc i)))) = omega arith
 
 -- each slot of the page is a control element of its type
 pub rowFor-row : (s w : List ℕ) (i : ℕ) → Row (slotAt s i .kind) (rowFor s w i)
@@ -114,8 +107,7 @@ module _ (s w q : List ℕ) (hq : Bytes q) (v : valid s q ≡ true) (b : brought
 
     in-page : a + (1 + m) ≤ slotsOf s
     in-page =
-        let e : t + 1 + (typesOf s - (t + 1)) ≡ typesOf s = omega arith in
-        let u : startOf s (t + 1) ≤ startOf s (typesOf s) = rw e at (start-up s (t + 1) (typesOf s - (t + 1))) in
+        let u = start-up s (t + 1) (typesOf s) (omega arith) in
         omega (arith, start-next s t, u, slots-end s f)
 
     element-acts : (i : ℕ) → i < m → settled k (chosen (controlOf k (theirs a)) (controlOf k (theirs (a + (1 + i))))) (storedIn s t i) ≡ wantedIn s w t i

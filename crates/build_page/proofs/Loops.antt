@@ -1,6 +1,6 @@
 -- What one turn of each loop of the builder does, and the overall element that stands at each slot. Assumes nothing.
 use mathlib.Core.Path.{_≡_, sym, ap, _∙_}
-use mathlib.Core.Bool.{Bool, true, false, not}
+use mathlib.Core.Bool.{Bool, true, false}
 use mathlib.Core.List.{List}
 use Prim.Native.Nat.{ℕ, zero, suc, _+_, _*_, _-_, _/_, _<_, _≤_}
 use native.Mathlib.Numerals.{add-one}
@@ -9,13 +9,16 @@ use mir.Val.{Fits}
 use mir.Syntax.{w8}
 use lib.Dec.{ltb}
 use lib.ListN.{length, getD}
-use borrow.Author.Tests.{eqb-true, eqb-false, eq-eqb, le-ltb, ltb-true, ltb-false}
+use borrow.Author.Tests.{eqb-true, eqb-false, eq-eqb, ltb-true, ltb-false}
 use Rattle.bits.specs.Numbers.{big, bytes}
 use Rattle.bits.specs.Places.{fourAt}
+use Rattle.bits.proofs.Each.{byte-small}
+use Rattle.bits.proofs.Ends.{part-none}
+use Rattle.bits.proofs.Masks.{known-four}
 use Rattle.bits.proofs.Widths.{bytes-big}
 use Rattle.bits.proofs.Rows.{as-four}
 use Rattle.bits.specs.Choice.{pick, allBelow}
-use Rattle.bits.proofs.Logic.{by-case, pick-yes, pick-no, below-all, below-fails, below-next, fails, first-none}
+use Rattle.bits.proofs.Logic.{by-case, pick-yes, pick-no, below-fails, below-next}
 use Rattle.element.specs.Settings.{settingsFormed}
 use Rattle.element_control.specs.Control.{controlOf}
 use Rattle.build_element.specs.Wishes.{silent, inReach, one}
@@ -31,11 +34,12 @@ use Rattle.shelf.specs.Elements.{settingsAt}
 use Rattle.shelf.specs.SettingsList.{settingsIn}
 use Rattle.page.specs.declared.slots.Slot.{Slot}
 use Rattle.page.specs.declared.slots.SlotRun.{SlotRun}
-use Rattle.page.specs.Slots.{slotsOf, startOf, inType, slotType, isOverall, slotAt, slotRun, slotIn}
+use Rattle.page.specs.Slots.{slotsOf, startOf, slotType, isOverall, slotAt, slotRun, slotIn}
 use Rattle.page.proofs.SlotsOfFront.{end-there}
 use Rattle.page.proofs.SlotWalk.{slot-walked}
-use Rattle.page.proofs.ElementSlots.{start-up, slotted, slot-has}
-use Rattle.page.proofs.SlotTypes.{start-below, type-ends}
+use Rattle.page.proofs.ElementSlots.{slot-has}
+use Rattle.page.proofs.SlotsBefore.{start-up}
+use Rattle.page.proofs.SlotTypes.{start-below, type-ends, slotted}
 use Rattle.build_overall.specs.Choice.{HasWishes, overallOf}
 use Rattle.build_page.specs.Promise.{mayBe}
 use Rattle.build_page.specs.Page.{overallIn, rowUnder, rowFor, selectsFor, reachable}
@@ -71,16 +75,13 @@ module _ (s w : List ℕ) (at : Slot) (o : List ℕ) where
   unfolding rowUnder
   row-own t hp he hx h = h ∙ rw (t, hp, he, hx)
 
-fits-small : {n : ℕ} → Fits w8 n → n < 256
-fits-small h = omega arith
-
 -- the overall element, as the number that its bytes say
 module _ (s w : List ℕ) (at : Slot) (m : ℕ) where
   pub number-found : {o : List ℕ} {n : ℕ} → at .overall ≡ true → length o ≡ 4 → Fits w8 (getD o 0 0) → Fits w8 (getD o 1 0) → Fits w8 (getD o 2 0) → Fits w8 (getD o 3 0)
       → o ≡ overallOf s w at → n ≡ big (fourAt o 0) → bytes 4 n ≡ pick (at .overall) (overallOf s w at) (bytes 4 m)
   number-found {o} t l a b c d h e =
       ap (bytes 4) e
-      ∙ bytes-big (fourAt o 0) (fits-small a, (fits-small b, (fits-small c, (fits-small d, tt))))
+      ∙ bytes-big (fourAt o 0) (known-four o a b c d)
       ∙ sym (as-four o l)
       ∙ h
       ∙ sym (pick-yes _ _ _ t)
@@ -92,13 +93,7 @@ module _ (s : List ℕ) where
   -- past the last type
   past : (i : ℕ) → startOf s mostTypes ≤ i → slotType s i ≡ mostTypes
   unfolding slotType
-  past i l = first-none (inType s i) mostTypes (below-all (fails (inType s i)) mostTypes not-in)
-    where
-      not-in : (t : ℕ) → t < mostTypes → fails (inType s i) t ≡ true
-      not-in t h =
-          let e : t + 1 + (mostTypes - (t + 1)) ≡ mostTypes = omega arith in
-          let u : startOf s (t + 1) ≤ startOf s mostTypes = rw e at (start-up s (t + 1) (mostTypes - (t + 1))) in
-          ap not (le-ltb i (startOf s (t + 1)) (omega arith))
+  past i l = part-none (startOf s) i mostTypes (start-up s) l
 
   -- only at an overall element does the type change
   same-type : (i : ℕ) → isOverall s (suc i) ≡ false → slotType s i ≡ slotType s (suc i)
@@ -117,9 +112,7 @@ module _ (s : List ℕ) where
 
       behind : mostTypes ≤ slotType s (suc i) → startOf s (slotType s (suc i)) ≤ i → slotType s i ≡ slotType s (suc i)
       behind l g =
-          let u = slotType s (suc i) in
-          let e : mostTypes + (u - mostTypes) ≡ u = omega arith in
-          let a : startOf s mostTypes ≤ startOf s u = rw e at (start-up s mostTypes (u - mostTypes)) in
+          let a = start-up s mostTypes (slotType s (suc i)) l in
           past i (omega arith) ∙ sym (past (suc i) (omega arith))
 
   -- a page starts with one
@@ -153,7 +146,7 @@ module _ (s : List ℕ) where
     -- what a turn counts
     row-counts : (i : ℕ) {y : List ℕ} → y ≡ rowFor s w i → (getD y 0 0 / 128 ≡ selects (rowFor s w i)) × (getD y 0 0 / 128 ≤ 1)
     row-counts i {y} h =
-        let l = rowFor-row s w i .1 0 in
+        let l = byte-small (rowFor s w i) (rowFor-row s w i .1) 0 in
         rw h (select-counts (rowFor s w i) l, omega arith)
 
     pub count-next : (i : ℕ) {n : ℕ} {y : List ℕ} → n ≡ selectsFor s w i → y ≡ rowFor s w i → n + getD y 0 0 / 128 ≡ selectsFor s w (i + 1)

@@ -2,7 +2,7 @@
 use mathlib.Core.Path.{_≡_, ap, _∙_}
 use mathlib.Core.Bool.{Bool, true, false, not}
 use mathlib.Core.List.{List}
-use Prim.Native.Nat.{ℕ, zero, suc, _+_, _-_, _<_, _≤_}
+use Prim.Native.Nat.{ℕ, zero, suc, _+_, _<_, _≤_}
 use native.Mathlib.Omega.{arith}
 use lib.Dec.{eqb, ltb}
 use borrow.Author.Tests.{eqb-true, eqb-false, ltb-true, ltb-false}
@@ -24,9 +24,9 @@ use Rattle.shelf.specs.Elements.{settingsAt}
 use Rattle.shelf.specs.SettingsList.{settingsIn}
 use Rattle.shelf_formed.specs.Formed.{frontFormed}
 use Rattle.shelf_formed.proofs.ElementTypes.{front-formed}
-use Rattle.page.specs.Slots.{slotsOf, startOf, slotType, slotAt, slotPlace}
+use Rattle.page.specs.Slots.{slotsOf, slotType, slotAt, slotPlace}
 use Rattle.page.specs.Places.{ownSlot}
-use Rattle.page.proofs.ElementSlots.{start-up}
+use Rattle.page.proofs.SlotsBefore.{start-up}
 use Rattle.page.proofs.SlotTypes.{start-below, types-below}
 use Rattle.page.proofs.SlotsOfFront.{after-start, first-is, first-typed, first-there}
 use Rattle.control_page.proofs.ValidPage.{valid-formed}
@@ -72,9 +72,7 @@ module _ (s w : List ℕ) (f : frontFormed s ≡ true) (j : ℕ) (same : (i : �
     type-there =
         by-case (ltb (slotType s i) (typesOf s)) (λ t. ltb-true _ _ t)
         (λ t.
-        let l = ltb-false (slotType s i) (typesOf s) t in
-        let e : typesOf s + (slotType s i - typesOf s) ≡ slotType s i = omega arith in
-        let u : startOf s (typesOf s) ≤ startOf s (slotType s i) = rw e at (start-up s (typesOf s) (slotType s i - typesOf s)) in
+        let u = start-up s (typesOf s) (slotType s i) (ltb-false (slotType s i) (typesOf s) t) in
         absurd (omega (arith, u, start-below s i, slots-end s f, h)))
 
     o-silent : overallIn s w (slotType s i) ≡ silent

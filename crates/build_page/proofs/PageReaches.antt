@@ -8,6 +8,7 @@ use lib.ListN.{length}
 use borrow.Author.Tests.{le-ltb}
 use Rattle.bits.specs.Numbers.{Bytes}
 use Rattle.bits.specs.Places.{fourAt}
+use Rattle.bits.proofs.Each.{four-small}
 use Rattle.bits.proofs.Logic.{never}
 use Rattle.bits.proofs.Rows.{joined-same}
 use Rattle.element.specs.Settings.{settingsOf, settingsFormed}
@@ -34,7 +35,7 @@ use Rattle.control_page.specs.Brought.{settingsAfter, broughtTo}
 use Rattle.control_page.proofs.ValidPage.{firstFine, parts-valid}
 use Rattle.build_page.specs.Page.{typeKind, storedIn, wantedIn, overallIn, rowFor, controlPage}
 use Rattle.build_page.proofs.SlotsByType.{overall-row, element-row, own-slot, overall-slot, element-kind-at}
-use Rattle.build_page.proofs.FirstSlots.{four-small, rowFor-row, rowFor-length, brought}
+use Rattle.build_page.proofs.FirstSlots.{rowFor-row, rowFor-length, brought}
 use Rattle.build_page.proofs.FirstPage.{made-row}
 
 module _ (s w : List ℕ) (f : wellFormed s ≡ true) where

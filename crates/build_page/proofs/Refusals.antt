@@ -1,20 +1,21 @@
 -- The call that builds a page, one refusal after the other. Assumes nothing.
 use mathlib.Core.Path.{_≡_, sym, ap, _∙_}
 use mathlib.Core.Bool.{Bool, true, false}
-use mathlib.Core.List.{List}
+use mathlib.Core.List.{List, _++_}
 use Prim.Native.Nat.{ℕ, _*_, _<_, _≤_}
 use lib.Dec.{eqb, leb}
-use lib.ListN.{length}
+use lib.ListN.{length, drop}
 use borrow.Author.Tests.{eq-eqb, ne-eqb, le-leb, lt-leb}
 use Rattle.bits.specs.Choice.{allBelow}
+use Rattle.bits.specs.Rows.{joined}
 use Rattle.refusals.specs.declared.Refusal.{Refusal}
 use Rattle.refusals.specs.declared.Refusal.the-variants.{WantedList, OutputTooShort}
 use Rattle.refusals.specs.declared.Answer.{Answer}
 use Rattle.refusals.specs.declared.Answer.the-variants as answer
 use Rattle.shelf.specs.Types.{elementsOf}
 use Rattle.page.specs.Slots.{slotsOf, slotPlace, slotsPut}
-use Rattle.page.specs.Header.{shelfTested, headPut}
-use Rattle.page.proofs.PagePut.{length-page, page-put}
+use Rattle.page.specs.Header.{shelfTested, header, headPut}
+use Rattle.page.proofs.PagePut.{length-page, page-placed}
 use Rattle.build_page.specs.declared.built.Built.the-variants.{Page, Refused}
 use Rattle.build_page.specs.Outcome.{builtOf, leftBy}
 use Rattle.build_page.specs.Promise.{mayBe, wishTested}
@@ -60,7 +61,7 @@ module _ (s w out : List ℕ) {n k : ℕ} (e : n ≡ slotsOf s) (p : k ≡ slotP
     pub page-left : (m : ℕ) {x y : List ℕ} → x ≡ headPut s out 0x02 0 n → y ≡ slotsPut (rowFor s w) x n → y ≡ leftBy (Page k m) (controlPage s w) out
     unfolding controlPage
     page-left m u v =
-        v
-        ∙ ap (λ (o : List ℕ). slotsPut (rowFor s w) o n) u
-        ∙ page-put (rowFor s w) (rowFor-length s w) s out 0x02 0 n (rw (← p) l)
-        ∙ rw (p, e)
+        let z = length-page (rowFor s w) (rowFor-length s w) s 0x02 0 n ∙ sym p in
+        rw (← e)
+        (page-placed (rowFor s w) (rowFor-length s w) s out 0x02 0 n (rw (← p) l) u v
+        ∙ ap (λ (i : ℕ). header s 0x02 0 n ++ joined (rowFor s w) n ++ drop i out) z)

@@ -2,40 +2,30 @@
 use mathlib.Core.Path.{_≡_, sym, ap, _∙_}
 use mathlib.Core.Bool.{true, false}
 use mathlib.Core.List.{List}
-use Prim.Native.Nat.{ℕ, zero, suc, _+_, _-_, _<_, _≤_}
-use native.Mathlib.Nat.{add-zero}
+use Prim.Native.Nat.{ℕ, _+_, _-_, _<_}
 use native.Mathlib.Omega.{arith}
 use borrow.Author.Tests.{eq-eqb, ne-eqb}
 use Rattle.bits.proofs.Logic.{pick-yes, pick-no}
+use Rattle.bits.proofs.Sums.{sum-past}
 use Rattle.element_control.specs.Control.{controlOf}
 use Rattle.build_element.specs.Wishes.{one}
 use Rattle.shelf.specs.Limits.{mostTypes}
 use Rattle.shelf.specs.Types.{typesOf, typeCount, before, elementsOf, typeOf, kindAt}
-use Rattle.shelf.proofs.ElementsBefore.{before-next}
+use Rattle.shelf.proofs.ElementsBefore.{before-next, before-up}
 use Rattle.shelf_formed.specs.Formed.{frontFormed}
 use Rattle.shelf_formed.proofs.FormedShelf.{few-types, type-clear}
+use Rattle.shelf_formed.proofs.ElementTypes.{typed}
 use Rattle.page.specs.Slots.{slotsOf, startOf, slotType, isOverall, slotAt}
 use Rattle.page.specs.Places.{ownSlot, overallSlot}
 use Rattle.page.proofs.SlotsBefore.{start-next}
-use Rattle.page.proofs.ElementSlots.{slotted}
-use Rattle.page.proofs.SlotsOfFront.{before-up, typed}
+use Rattle.page.proofs.SlotTypes.{slotted}
 use Rattle.build_page.specs.Page.{typeKind, storedIn, wantedIn, overallIn, rowUnder, rowFor}
 
 module _ (s : List ℕ) (f : frontFormed s ≡ true) where
   -- the types that are there have all elements
-  none-past : (d : ℕ) → typesOf s + d ≤ mostTypes → before s (typesOf s + d) ≡ before s (typesOf s)
-  none-past zero l = ap (before s) (add-zero (typesOf s))
-  none-past (suc d) l =
-      let t = typesOf s + d in
-      let e : typesOf s + suc d ≡ t + 1 = omega arith in
-      let z : typeCount s t ≡ 0 = type-clear s f t 1 (omega arith) (omega arith) (omega arith) in
-      ap (before s) e ∙ before-next s t ∙ omega (arith, none-past d (omega arith), z)
-
   pub all-there : before s (typesOf s) ≡ elementsOf s
-  unfolding elementsOf
-  all-there =
-      let e : typesOf s + (mostTypes - typesOf s) ≡ mostTypes = omega (arith, few-types s f) in
-      sym (none-past (mostTypes - typesOf s) (omega (arith, few-types s f))) ∙ ap (before s) e
+  unfolding elementsOf before
+  all-there = sym (sum-past (typeCount s) (typesOf s) mostTypes (few-types s f) (λ t l m. type-clear s f t 1 l m (omega arith)))
 
   pub slots-end : startOf s (typesOf s) ≡ slotsOf s
   unfolding startOf slotsOf
@@ -98,8 +88,7 @@ module _ (s : List ℕ) (f : frontFormed s ≡ true) where
       pub element-here : before s t + i < elementsOf s
       unfolding elementsOf
       element-here =
-          let e : mostTypes ≡ t + 1 + (mostTypes - (t + 1)) = omega (arith, below) in
-          let u : before s (t + 1) ≤ before s mostTypes = rw (← e) at (before-up s (t + 1) (mostTypes - (t + 1))) in
+          let u = before-up s (t + 1) mostTypes (omega (arith, below)) in
           omega (arith, u, before-next s t)
 
       -- where the page has what acts on it

@@ -2,15 +2,15 @@
 use mathlib.Core.Path.{_≡_, refl, sym, ap, _∙_}
 use mathlib.Core.Bool.{Bool, true, false, not, _&&_}
 use mathlib.Core.List.{List}
-use Prim.Native.Nat.{ℕ, zero, suc, _+_, _<_, _≤_}
+use Prim.Native.Nat.{ℕ, _+_, _<_, _≤_}
 use native.Mathlib.Nat.{add-zero}
 use native.Mathlib.Omega.{arith}
-use lib.Dec.{eqb, leb, ltb}
+use lib.Dec.{eqb, leb}
 use lib.ListN.{getD}
-use borrow.Author.Tests.{leb-true, ltb-true}
+use borrow.Author.Tests.{leb-true}
 use Rattle.bits.specs.Choice.{firstOf, allBelow, firstBelow}
 use Rattle.bits.specs.Places.{fourAt}
-use Rattle.bits.proofs.Logic.{by-case, pick-yes, and-right, below-all, below-next, fails, first-none, first-at, first-passes, first-fails, all-four, first-small}
+use Rattle.bits.proofs.Logic.{and-right, below-all, below-next, fails, first-none, first-at, first-passes, first-fails, all-four, first-small, first-bound}
 use Rattle.element.specs.Types.{served}
 use Rattle.shelf.specs.Limits.{mostTypes, mostElements, mostInType, mostText}
 use Rattle.configuration_page.specs.Page.{headerPlace}
@@ -19,13 +19,6 @@ use Rattle.configuration_page.proofs.Loops.{total-next}
 use Rattle.configuration_page.proofs.Refusals.{header-at}
 
 module _ (f : ℕ → Bool) where
-  first-within : (n : ℕ) → firstBelow f n ≤ n
-  first-within zero = omega arith
-  first-within (suc n) =
-      by-case (ltb (firstBelow f n) n)
-      (λ e. rw (pick-yes _ (firstBelow f n) _ e) (omega (arith, ltb-true (firstBelow f n) n e)))
-      (λ e. rw e (by-case (f n) (λ q. rw q (omega arith)) (λ q. rw q (omega arith))))
-
   -- what is found in a part is found in the whole
   found : (a n : ℕ) → firstBelow f a < a → a ≤ n → firstBelow f n ≡ firstBelow f a
   found a n h l = first-at f n (firstBelow f a) (omega arith) (below-all (fails f) (firstBelow f a) (λ k q. ap not (first-fails f a k q))) (first-passes f a h)
@@ -64,7 +57,7 @@ module _ (p : List ℕ) where
 
   pub found-in : {r : ℕ} (a n : ℕ) → r ≡ offenceBelow p a → (r ≡ a → ⊥) → a ≤ n → r ≡ firstBelow (offends p) n
   unfolding offenceBelow
-  found-in a n e h l = let w = first-within (offends p) a in e ∙ sym (found (offends p) a n (omega arith) l)
+  found-in a n e h l = let w = first-bound (offends p) a in e ∙ sym (found (offends p) a n (omega arith) l)
 
   pub none-there : {a b r : ℕ} → b ≡ a → r ≡ offenceBelow p a → r ≡ b → offenceBelow p b ≡ b
   none-there eb er e = rw eb (sym er ∙ e ∙ eb)

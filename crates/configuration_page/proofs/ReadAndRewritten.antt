@@ -1,19 +1,19 @@
 -- What an accepted page tells is a well-formed configuration, and its page is that page. Assumes nothing.
 use mathlib.Core.Path.{_≡_, refl, sym, ap, ap₂, _∙_}
-use mathlib.Core.Bool.{Bool, true}
+use mathlib.Core.Bool.{true}
 use mathlib.Core.List.{List, [], _∷_, _++_}
 use Prim.Native.Nat.{ℕ, zero, suc, _+_, _-_, _<_, _≤_}
 use native.Mathlib.Nat.{add-zero}
 use native.Mathlib.Omega.{arith}
-use lib.Dec.{eqb, leb, ltb}
+use lib.Dec.{leb, ltb}
 use lib.ListN.{length, getD}
 use borrow.Author.Tests.{leb-true, le-leb, lt-ltb, le-ltb, ltb-true, ltb-false, eq-eqb, eqb-true}
 use Rattle.bits.specs.Bits.{printable}
 use Rattle.bits.specs.Choice.{sumBelow}
-use Rattle.bits.specs.Numbers.{big, bytes, Bytes}
+use Rattle.bits.specs.Numbers.{big, bytes, Each, Bytes}
 use Rattle.bits.specs.Places.{twoAt, fourAt}
 use Rattle.bits.specs.Rows.{joined, bytesAt}
-use Rattle.bits.proofs.Every.{Every, every-joined, every-get}
+use Rattle.bits.proofs.Each.{each-joined, each-get, byte-small}
 use Rattle.bits.proofs.Logic.{by-case, and-both, pick-yes, pick-no, below-all}
 use Rattle.bits.proofs.Parts.{pieces, bytes-split, bytes-rows}
 use Rattle.bits.proofs.Rows.{joined-same, bytes-same, four-bytes, bytes-whole}
@@ -26,7 +26,6 @@ use Rattle.shelf.specs.Limits.{mostTypes, mostElements, mostInType, mostText, t
 use Rattle.shelf.specs.Types.{typesOf, typeCode, typeCount, textLength, before, elementsOf}
 use Rattle.shelf_formed.specs.Formed.{headFormed, textByteFormed, textFormed, typeFormed, typeByteEmpty, typeEmpty, slotFormed, typesFormed, frontFormed, configurationFormed}
 use Rattle.page.specs.Header.{lengthSaid}
-use Rattle.page.proofs.HeaderBothWays.{byte-small}
 use Rattle.configuration_page.specs.Page.{headerPlace, typeHeader, textOf, configurationLength, fixedPart, configurationPage}
 use Rattle.configuration_page.specs.Read.{typesOn, headerByte, totalBefore, textPlaceOn, configurationRead}
 use Rattle.configuration_page.specs.Configuration.{toldByte, textByte, oneTold, headTold, textTold, typeTold, configurationOf}
@@ -35,22 +34,16 @@ use Rattle.configuration_page.proofs.AcceptedPage.{code-passed, length-
 use Rattle.configuration_page.proofs.TextStarts.{told-byte, past-byte, told-sum, few-types}
 use Rattle.configuration_page.proofs.PlacesInConfiguration.{handed-generation, handed-identification, handed-types, handed-zeros, handed-type, handed-code, handed-count, handed-length, handed-spare, handed-text}
 
-abbrev isZero : ℕ → Bool
-isZero b = eqb b 0
-
 -- past the last type a page tells zeros
 past-text : (p : List ℕ) (t i : ℕ) → typesOn p ≤ t → textByte p t i ≡ 0
 unfolding textByte
 past-text p t i h = pick-no _ _ _ (ap (ltb i) (past-byte p t 3 h) ∙ le-ltb i 0 (omega arith))
 
-past-type : (p : List ℕ) (t : ℕ) → typesOn p ≤ t → Every isZero (typeTold p t)
+past-type : (p : List ℕ) (t : ℕ) → typesOn p ≤ t → Each (λ b. b ≡ 0) (typeTold p t)
 unfolding typeTold headTold textTold
 past-type p t h =
-    let text = every-joined isZero (oneTold p t) mostText (λ i l. (eq-eqb (textByte p t i) 0 (past-text p t i h), tt)) in
-    (zero-byte 0, (zero-byte 1, (zero-byte 3, (refl, text))))
-  where
-    zero-byte : (j : ℕ) → isZero (toldByte p j t) ≡ true
-    zero-byte j = eq-eqb (toldByte p j t) 0 (past-byte p t j h)
+    let text = each-joined (λ b. b ≡ 0) (oneTold p t) mostText (λ i l. (past-text p t i h, tt)) in
+    (past-byte p t 0 h, (past-byte p t 1 h, (past-byte p t 3 h, (refl, text))))
 
 module _ (p : List ℕ) (a : configurationRead p ≡ Accepted) where
   module _ (t : ℕ) (h : t < typesOn p) where
@@ -86,7 +79,7 @@ module _ (p : List ℕ) (a : configurationRead p ≡ Accepted) where
         pick-yes _ _ _ e ∙ ap printable (told-text i m) ∙ text-passed p a (textPlaceOn p t + i) (after-headers i) (on-page i m))
         (λ e.
         let m : headerByte p 3 t ≤ i = rw told-length at (ltb-false i (textLength c t) e) in
-        pick-no _ _ _ e ∙ ap isZero (handed-text p t below i l ∙ pick-no _ _ _ (le-ltb i (toldByte p 3 t) (rw (told-byte p t 3 h) m))))
+        pick-no _ _ _ e ∙ eq-eqb _ 0 (handed-text p t below i l ∙ pick-no _ _ _ (le-ltb i (toldByte p 3 t) (rw (told-byte p t 3 h) m))))
 
     type-formed : typeFormed (configurationOf p) t ≡ true
     unfolding typeFormed textFormed
@@ -106,7 +99,7 @@ module _ (p : List ℕ) (a : configurationRead p ≡ Accepted) where
   unfolding typeEmpty
   type-empty t h l =
       below-all (typeByteEmpty (configurationOf p) t) typeSize
-      (λ i m. ap isZero (handed-type p t l i m) ∙ every-get isZero (typeTold p t) i (past-type p t h) (rw (length-type p t) m))
+      (λ i m. eq-eqb _ 0 (handed-type p t l i m ∙ each-get (λ b. b ≡ 0) (typeTold p t) i (past-type p t h) (rw (length-type p t) m)))
 
   slot-formed : (t : ℕ) → t < mostTypes → slotFormed (configurationOf p) (typesOf (configurationOf p)) t ≡ true
   unfolding slotFormed

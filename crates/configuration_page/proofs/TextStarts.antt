@@ -49,11 +49,8 @@ head-length p t e = ap (λ (l : List ℕ). getD l 2 0) e
 -- so the sum over all types is that over the types that the page has
 pub told-sum : (p : List ℕ) (j m : ℕ) → typesOn p ≤ m → sumBelow (toldByte p j) m ≡ sumBelow (headerByte p j) (typesOn p)
 told-sum p j m h =
-    let n = typesOn p in
-    let e : m ≡ n + (m - n) = omega arith in
-    ap (sumBelow (toldByte p j)) e
-    ∙ sum-past (toldByte p j) n (m - n) (λ t l. past-byte p t j l)
-    ∙ sum-same (toldByte p j) (headerByte p j) n (λ t l. told-byte p t j l)
+    sum-past (toldByte p j) (typesOn p) m h (λ t l k. past-byte p t j l)
+    ∙ sum-same (toldByte p j) (headerByte p j) (typesOn p) (λ t l. told-byte p t j l)
 
 -- the texts start where the page has them, and past the last type where they end
 start-there : (p : List ℕ) (t : ℕ) → t < typesOn p → toldStart p t ≡ textPlaceOn p t

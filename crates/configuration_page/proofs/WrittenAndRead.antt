@@ -14,7 +14,7 @@ use Rattle.bits.specs.Bits.{printable}
 use Rattle.bits.specs.Numbers.{big, bytes}
 use Rattle.bits.specs.Places.{twoAt, fourAt}
 use Rattle.bits.specs.Rows.{joined, oneAt, bytesAt}
-use Rattle.bits.proofs.Every.{every-joined, every-bytes, every-get}
+use Rattle.bits.proofs.Each.{each-joined, each-bytes, each-get}
 use Rattle.bits.proofs.Logic.{by-case, and-left, and-right, and-both, pick-yes, pick-no, below-all, fails, first-none}
 use Rattle.bits.proofs.Parts.{pieces, get-behind, bytes-split, bytes-rows}
 use Rattle.bits.proofs.Rows.{joined-same, bytes-get, bytes-there, bytes-same, four-bytes}
@@ -105,8 +105,8 @@ module _ (s : List ℕ) (w : frontFormed s ≡ true) where
   unfolding textOffends textOf
   text-fine k h =
       ap not
-      (every-get printable (joined (textOf s) (typesOf s)) k
-      (every-joined printable (textOf s) (typesOf s) (λ t l. every-bytes printable s (textPlace t) (textLength s t) (λ i m. text-printable s w t l i m)))
+      (each-get (λ b. printable b ≡ true) (joined (textOf s) (typesOf s)) k
+      (each-joined (λ b. printable b ≡ true) (textOf s) (typesOf s) (λ t l. each-bytes (λ b. printable b ≡ true) s (textPlace t) (textLength s t) (λ i m. text-printable s w t l i m)))
       h)
 
   fine : (k : ℕ) → k < length (configurationPage s) → offends (configurationPage s) k ≡ false

@@ -10,7 +10,7 @@ use borrow.Author.Tests.{eqb-true, eq-eqb}
 use Rattle.bits.specs.Choice.{pick, refusedIn, offenceIn}
 use Rattle.bits.specs.Bits.{only}
 use Rattle.bits.proofs.Logic.{pick-yes, fails, below-all}
-use Rattle.bits.proofs.Offence.{refused-none, row-fine}
+use Rattle.bits.proofs.Offence.{first-fine, refused-none, row-fine}
 use Rattle.refusals.specs.declared.Refusal.the-variants.{NotAllowed}
 use Rattle.refusals.specs.declared.Answer.the-variants.{Accepted}
 use Rattle.refusals.specs.Outcomes.{unless}
@@ -28,11 +28,7 @@ firstFine p = only (3 ∷ 2 ∷ 1 ∷ 0 ∷ []) (getD p 1 0)
 module _ (s p : List ℕ) where
   own-fine : (n : ℕ) → offence s p n ≡ slotPlace n → firstFine p ≡ true
   unfolding offence
-  own-fine n = go (firstFine p)
-    where
-      go : (t : Bool) → pick t (offenceIn slotPlace (slotOffending s p) n) 1 ≡ slotPlace n → t ≡ true
-      go true e = refl
-      go false e = absurd (omega arith)
+  own-fine n h = first-fine slotPlace (slotOffending s p) n (firstFine p) (λ e. omega (arith, e)) h
 
   module _ (v : valid s p ≡ true) where
     parts : (pageTested s p 0x02 ≡ Accepted) × (offence s p (slotsOf s) ≡ slotPlace (slotsOf s))

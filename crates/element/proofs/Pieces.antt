@@ -8,6 +8,8 @@ use lib.Arith.{digits-lt}
 use lib.Bits.{bitAnd, and-mask, and-zero-r, and-block}
 use lib.ListN.{length, getD}
 use lib.Pow.{pow-add, pow-mono, high, low, lt-of-le-ones, le-ones, ones-lt, pow-pos, mod-pow-add}
+use Rattle.bits.specs.Numbers.{Each}
+use Rattle.bits.proofs.Each.{each-append}
 use Rattle.element.specs.StatusLayout.{Piece, field, reserved, size, count, fieldMask, mostIn, fieldsIn, byteFrom, padded}
 
 -- the fields of v from the i-th on, as far as the pieces hold them
@@ -16,7 +18,7 @@ cutIn [] v i = []
 cutIn (field w ∷ ps) v i = getD v i 0 % 2 ^ w ∷ cutIn ps v (suc i)
 cutIn (reserved w ∷ ps) v i = cutIn ps v i
 
-regroup : (c a b f r : ℕ) → c * (a * b) + (f * b + r) ≡ (c * a + f) * b + r
+pub regroup : (c a b f r : ℕ) → c * (a * b) + (f * b + r) ≡ (c * a + f) * b + r
 regroup c a b f r =
     ap (λ (x : ℕ). x + (f * b + r)) (sym (mul-assoc c a b))
     ∙ sym (add-assoc (c * a * b) (f * b) r)
@@ -63,13 +65,16 @@ tail-cut (field w ∷ ps) x v i = ap (λ (n : List ℕ). getD v i 0 % 2 ^ w ∷ 
 tail-cut (reserved w ∷ ps) x v i = tail-cut ps x v i
 
 -- so a byte's fields are found behind those of the bytes before it
+behind : {A : Type 0} (f : List ℕ → ℕ → A) → ((x : ℕ) (v : List ℕ) (i : ℕ) → f (x ∷ v) (suc i) ≡ f v i) → (xs v : List ℕ) (i : ℕ)
+    → f (xs ++ v) (length xs + i) ≡ f v i
+behind f tail [] v i = ap (f v) (zero-add i)
+behind f tail (x ∷ xs) v i = ap (f (x ∷ (xs ++ v))) (suc-add (length xs) i) ∙ tail x (xs ++ v) (length xs + i) ∙ behind f tail xs v i
+
 pub byte-behind : (ps : List Piece) (xs v : List ℕ) (i : ℕ) → byteFrom ps (xs ++ v) (length xs + i) ≡ byteFrom ps v i
-byte-behind ps [] v i = ap (byteFrom ps v) (zero-add i)
-byte-behind ps (x ∷ xs) v i = ap (byteFrom ps (x ∷ (xs ++ v))) (suc-add (length xs) i) ∙ tail-byte ps x (xs ++ v) (length xs + i) ∙ byte-behind ps xs v i
+byte-behind ps = behind (byteFrom ps) (tail-byte ps)
 
 pub cut-behind : (ps : List Piece) (xs v : List ℕ) (i : ℕ) → cutIn ps (xs ++ v) (length xs + i) ≡ cutIn ps v i
-cut-behind ps [] v i = ap (cutIn ps v) (zero-add i)
-cut-behind ps (x ∷ xs) v i = ap (cutIn ps (x ∷ (xs ++ v))) (suc-add (length xs) i) ∙ tail-cut ps x (xs ++ v) (length xs + i) ∙ cut-behind ps xs v i
+cut-behind ps = behind (cutIn ps) (tail-cut ps)
 
 -- and what stands behind them does not matter
 pub byte-front : (ps : List Piece) (b : ℕ) (ys : List ℕ) → byteFrom ps (fieldsIn ps b ++ ys) 0 ≡ byteFrom ps (fieldsIn ps b) 0
@@ -100,6 +105,16 @@ pub pad-append : (n : ℕ) (xs : List ℕ) → length xs ≤ n → (ys : List �
 pad-append n [] h = (padded n [], refl)
 pad-append zero (x ∷ xs) h = absurd (omega (arith, h))
 pad-append (suc n) (x ∷ xs) h = let t = pad-append n xs (omega (arith, h)) in (t .0, ap (λ (l : List ℕ). x ∷ l) (t .1))
+
+-- what the fields of three bytes keep to, and 0 behind them
+module _ (P : ℕ → Type 0) (z : P 0) where
+  pad-each : (n : ℕ) (xs : List ℕ) → Each P xs → Each P (padded n xs)
+  pad-each zero xs p = tt
+  pad-each (suc n) [] p = (z, pad-each n [] tt)
+  pad-each (suc n) (x ∷ xs) p = (p .0, pad-each n xs (p .1))
+
+  pub each-padded : (a b c : List ℕ) → Each P a → Each P b → Each P c → Each P (padded 12 (a ++ (b ++ c)))
+  each-padded a b c p q r = pad-each 12 (a ++ (b ++ c)) (each-append P a (b ++ c) p (each-append P b c q r))
 
 -- each number of the one list is at most that of the other
 abbrev pub AllLe : List ℕ → List ℕ → Type 0

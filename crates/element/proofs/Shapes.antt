@@ -2,7 +2,7 @@
 use mathlib.Core.Path.{_≡_, refl, sym, ap, subst, _∙_}
 use mathlib.Core.List.{List, [], _∷_, _++_, append-assoc}
 use Prim.Native.Nat.{ℕ, zero, suc, _+_, _-_, _*_, _/_, _%_, _^_, _<_, _≤_}
-use native.Mathlib.Nat.{mod-lt, mod-eq-of-lt, mul-assoc, add-mul, add-assoc, add-comm, div-one, zero-add, zero-mul}
+use native.Mathlib.Nat.{mod-lt, mod-eq-of-lt, add-comm, div-one, zero-add, zero-mul}
 use native.Mathlib.Omega.{arith}
 use lib.Arith.{digits-lt}
 use lib.Bits.{bitAnd, bitOr, and-mask, and-zero-r, or-zero-l, or-shifted}
@@ -12,7 +12,7 @@ use lib.Pow as pow
 use Rattle.bits.specs.Numbers.{big, bytes, Bytes}
 use Rattle.bits.proofs.Widths.{bytes-big}
 use Rattle.element.specs.StatusLayout.{Piece, StatusLayout, field, reserved, size, count, mostIn, mostOf, fieldsIn, byteFrom, padded, twelve, three, shiftsIn, shiftsOf, cutAt, putOnto, cuts, puts}
-use Rattle.element.proofs.Pieces.{byte-small, length-padded}
+use Rattle.element.proofs.Pieces.{regroup, byte-small, length-padded, each-padded}
 
 -- a field of one byte of a number
 cut-field : (m k w : ℕ) → k + w ≤ 8 → m / 2 ^ k % 2 ^ w ≡ m % 2 ^ 8 / 2 ^ k % 2 ^ w
@@ -92,12 +92,6 @@ module _ (l : StatusLayout) (p : size (l .second) ≡ 8) (q : size (l .third) �
       cuts-padded n 12 (shiftsIn 16 (l .second) ++ v) (mostIn (l .second) ++ w) same-length
       ∙ ap (padded 12) (cuts-behind n 16 (l .second) v w ∙ ap (λ (t : List ℕ). cuts n (shiftsIn 16 (l .second)) (mostIn (l .second)) ++ t) (cuts-behind n 8 (l .third) (shiftsIn 0 (l .fourth)) (mostIn (l .fourth))))
       ∙ ap (padded 12) (λ i. x i ++ (y i ++ z i))
-
-regroup : (c a b f r : ℕ) → c * (a * b) + (f * b + r) ≡ (c * a + f) * b + r
-regroup c a b f r =
-    ap (λ (x : ℕ). x + (f * b + r)) (sym (mul-assoc c a b))
-    ∙ sym (add-assoc (c * a * b) (f * b) r)
-    ∙ ap (λ (x : ℕ). x + r) (sym (add-mul (c * a) f b))
 
 -- one field more, above what is put already
 put-above : (x b k w f r : ℕ) → b ≤ 16 → k + w ≤ 8 → f < 2 ^ k → r < 2 ^ b
@@ -226,29 +220,12 @@ shifts-small b [] h = tt
 shifts-small b (field w ∷ ps) h = (omega arith, shifts-small b ps (omega arith))
 shifts-small b (reserved w ∷ ps) h = shifts-small b ps (omega arith)
 
-small-append : (xs ys : List ℕ) → Bytes xs → Bytes ys → Bytes (xs ++ ys)
-small-append [] ys p q = q
-small-append (x ∷ xs) ys p q = (p .0, small-append xs ys (p .1) q)
-
-small-padded : (n : ℕ) (xs : List ℕ) → Bytes xs → Bytes (padded n xs)
-small-padded zero xs p = tt
-small-padded (suc n) [] p = (omega arith, small-padded n [] tt)
-small-padded (suc n) (x ∷ xs) p = (p .0, small-padded n xs (p .1))
-
-small-at : (xs : List ℕ) (i : ℕ) → Bytes xs → getD xs i 0 < 256
-small-at [] i p = omega arith
-small-at (x ∷ xs) zero p = p .0
-small-at (x ∷ xs) (suc i) p = small-at xs i (p .1)
-
-pub shift-small : (l : StatusLayout) (i : ℕ) → size (l .second) ≡ 8 → size (l .third) ≡ 8 → size (l .fourth) ≡ 8 → getD (shiftsOf l) i 0 < 256
-shift-small l i p q r =
-    let a = shiftsIn 16 (l .second) in
-    let b = shiftsIn 8 (l .third) in
-    let c = shiftsIn 0 (l .fourth) in
-    let x = shifts-small 16 (l .second) (omega arith) in
-    let y = shifts-small 8 (l .third) (omega arith) in
-    let z = shifts-small 0 (l .fourth) (omega arith) in
-    small-at (shiftsOf l) i (small-padded 12 (a ++ (b ++ c)) (small-append a (b ++ c) x (small-append b c y z)))
+pub all-shifts : (l : StatusLayout) → size (l .second) ≡ 8 → size (l .third) ≡ 8 → size (l .fourth) ≡ 8 → Bytes (shiftsOf l)
+all-shifts l p q r =
+    each-padded (λ b. b < 256) (omega arith) (shiftsIn 16 (l .second)) (shiftsIn 8 (l .third)) (shiftsIn 0 (l .fourth))
+    (shifts-small 16 (l .second) (omega arith))
+    (shifts-small 8 (l .third) (omega arith))
+    (shifts-small 0 (l .fourth) (omega arith))
 
 -- a list by its numbers, n of them from i on
 abbrev pub listed : List ℕ → ℕ → ℕ → List ℕ

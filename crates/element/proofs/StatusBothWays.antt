@@ -57,29 +57,13 @@ module _ (l : StatusLayout) where
 joined-three : (a b c y : List ℕ) → (a ++ (b ++ c)) ++ y ≡ a ++ (b ++ (c ++ y))
 joined-three a b c y = append-assoc a (b ++ c) y ∙ ap (λ (z : List ℕ). a ++ z) (append-assoc b c y)
 
-module _ (l : StatusLayout) (a b c y : List ℕ) (p : length a ≡ count (l .second)) (q : length b ≡ count (l .third)) where
-  abbrev v : List ℕ
-  v = a ++ (b ++ (c ++ y))
+-- what is found by its place, behind one part and behind two
+module _ {A : Type 0} (f : List ℕ → ℕ → A) (behind : (xs v : List ℕ) (i : ℕ) → f (xs ++ v) (length xs + i) ≡ f v i) where
+  past-one : (a v : List ℕ) {m : ℕ} → length a ≡ m → f (a ++ v) m ≡ f v 0
+  past-one a v p = ap (f (a ++ v)) (sym p ∙ sym (add-zero (length a))) ∙ behind a v 0
 
-  third-found : byteFrom (l .third) v (count (l .second)) ≡ byteFrom (l .third) (b ++ (c ++ y)) 0
-  third-found = ap (byteFrom (l .third) v) (sym p ∙ sym (add-zero (length a))) ∙ byte-behind (l .third) a (b ++ (c ++ y)) 0
-
-  fourth-found : byteFrom (l .fourth) v (count (l .second) + count (l .third)) ≡ byteFrom (l .fourth) (c ++ y) 0
-  fourth-found =
-      ap (byteFrom (l .fourth) v) (λ i. sym p i + sym q i)
-      ∙ byte-behind (l .fourth) a (b ++ (c ++ y)) (length b)
-      ∙ ap (byteFrom (l .fourth) (b ++ (c ++ y))) (sym (add-zero (length b)))
-      ∙ byte-behind (l .fourth) b (c ++ y) 0
-
-  third-cut : cutIn (l .third) v (count (l .second)) ≡ cutIn (l .third) (b ++ (c ++ y)) 0
-  third-cut = ap (cutIn (l .third) v) (sym p ∙ sym (add-zero (length a))) ∙ cut-behind (l .third) a (b ++ (c ++ y)) 0
-
-  fourth-cut : cutIn (l .fourth) v (count (l .second) + count (l .third)) ≡ cutIn (l .fourth) (c ++ y) 0
-  fourth-cut =
-      ap (cutIn (l .fourth) v) (λ i. sym p i + sym q i)
-      ∙ cut-behind (l .fourth) a (b ++ (c ++ y)) (length b)
-      ∙ ap (cutIn (l .fourth) (b ++ (c ++ y))) (sym (add-zero (length b)))
-      ∙ cut-behind (l .fourth) b (c ++ y) 0
+  past-two : (a b v : List ℕ) {m n : ℕ} → length a ≡ m → length b ≡ n → f (a ++ (b ++ v)) (m + n) ≡ f v 0
+  past-two a b v p q = ap (f (a ++ (b ++ v))) (λ i. sym p i + sym q i) ∙ behind a (b ++ v) (length b) ∙ past-one b v refl
 
 three-same : {a b c p q r : ℕ} → a ≡ p → b ≡ q → c ≡ r → _≡_ {A = List ℕ} (a ∷ b ∷ c ∷ []) (p ∷ q ∷ r ∷ [])
 three-same x y z = λ i. x i ∷ y i ∷ z i ∷ []
@@ -119,8 +103,8 @@ module _ (l : StatusLayout) (h : Lays l) where
         let r = t .0 in
         ap (ofTwelve l) (t .1)
         ∙ three-same (byte-front (l .second) b (y ++ (z ++ r)) ∙ byte-again (l .second) (h .second) b hb p)
-        (third-found l x y z r (fields-count (l .second) b) (fields-count (l .third) c) ∙ byte-front (l .third) c (z ++ r) ∙ byte-again (l .third) (h .third) c hc q)
-        (fourth-found l x y z r (fields-count (l .second) b) (fields-count (l .third) c) ∙ byte-front (l .fourth) d r ∙ byte-again (l .fourth) (h .fourth) d hd s)
+        (past-one (byteFrom (l .third)) (byte-behind (l .third)) x (y ++ (z ++ r)) (fields-count (l .second) b) ∙ byte-front (l .third) c (z ++ r) ∙ byte-again (l .third) (h .third) c hc q)
+        (past-two (byteFrom (l .fourth)) (byte-behind (l .fourth)) x y (z ++ r) (fields-count (l .second) b) (fields-count (l .third) c) ∙ byte-front (l .fourth) d r ∙ byte-again (l .fourth) (h .fourth) d hd s)
 
     -- and what they say fits
     pub twelve-fit : (i : ℕ) → getD (twelve l b c d) i 0 ≤ getD (mostOf l) i 0
@@ -129,17 +113,23 @@ module _ (l : StatusLayout) (h : Lays l) where
         (append-le x _ (y ++ z) _ (fields-le (l .second) b) (append-le y _ z _ (fields-le (l .third) c) (fields-le (l .fourth) d)))
 
   -- fields that fit are read back from the bytes that show them: part by part
-  module _ (f a b c r : List ℕ) (e : padded 12 f ≡ a ++ (b ++ (c ++ r))) (p : length a ≡ count (l .second)) (q : length b ≡ count (l .third)) where
-    second-back : ((z : List ℕ) → cutIn (l .second) (a ++ z) 0 ≡ a) → fieldsIn (l .second) (byteFrom (l .second) (padded 12 f) 0) ≡ a
-    second-back g = fields-cut (l .second) (padded 12 f) 0 ∙ ap (λ (z : List ℕ). cutIn (l .second) z 0) e ∙ g (b ++ (c ++ r))
+  part-back : (ps : List Piece) (v : List ℕ) (n : ℕ) (a z : List ℕ) → cutIn ps v n ≡ cutIn ps (a ++ z) 0 → ((z : List ℕ) → cutIn ps (a ++ z) 0 ≡ a)
+      → fieldsIn ps (byteFrom ps v n) ≡ a
+  part-back ps v n a z e g = fields-cut ps v n ∙ e ∙ g z
 
-    third-back : ((z : List ℕ) → cutIn (l .third) (b ++ z) 0 ≡ b) → fieldsIn (l .third) (byteFrom (l .third) (padded 12 f) (count (l .second))) ≡ b
-    third-back g =
-        fields-cut (l .third) (padded 12 f) _ ∙ ap (λ (z : List ℕ). cutIn (l .third) z (count (l .second))) e ∙ third-cut l a b c r p q ∙ g (c ++ r)
+  module _ (v a b c r : List ℕ) (e : v ≡ a ++ (b ++ (c ++ r))) (p : length a ≡ count (l .second)) (q : length b ≡ count (l .third)) where
+    cut : (ps : List Piece) (n : ℕ) → cutIn ps v n ≡ cutIn ps (a ++ (b ++ (c ++ r))) n
+    cut ps n = ap (λ (z : List ℕ). cutIn ps z n) e
 
-    fourth-back : ((z : List ℕ) → cutIn (l .fourth) (c ++ z) 0 ≡ c) → fieldsIn (l .fourth) (byteFrom (l .fourth) (padded 12 f) (count (l .second) + count (l .third))) ≡ c
-    fourth-back g =
-        fields-cut (l .fourth) (padded 12 f) _ ∙ ap (λ (z : List ℕ). cutIn (l .fourth) z (count (l .second) + count (l .third))) e ∙ fourth-cut l a b c r p q ∙ g r
+    parts-back : ((z : List ℕ) → cutIn (l .second) (a ++ z) 0 ≡ a) → ((z : List ℕ) → cutIn (l .third) (b ++ z) 0 ≡ b) → ((z : List ℕ) → cutIn (l .fourth) (c ++ z) 0 ≡ c)
+        → fieldsIn (l .second) (byteFrom (l .second) v 0) ++ (fieldsIn (l .third) (byteFrom (l .third) v (count (l .second))) ++ fieldsIn (l .fourth) (byteFrom (l .fourth) v (count (l .second) + count (l .third)))) ≡ a ++ (b ++ c)
+    parts-back f g h =
+        let m = count (l .second) in
+        let n = count (l .third) in
+        let x = part-back (l .second) v 0 a (b ++ (c ++ r)) (cut (l .second) 0) f in
+        let y = part-back (l .third) v m b (c ++ r) (cut (l .third) m ∙ past-one (cutIn (l .third)) (cut-behind (l .third)) a (b ++ (c ++ r)) p) g in
+        let z = part-back (l .fourth) v (m + n) c r (cut (l .fourth) (m + n) ∙ past-two (cutIn (l .fourth)) (cut-behind (l .fourth)) a b (c ++ r) p q) h in
+        λ i. x i ++ (y i ++ z i)
 
   few-parts : (a b c : List ℕ) → length a ≡ count (l .second) → length b ≡ count (l .third) → length c ≡ count (l .fourth) → length (a ++ (b ++ c)) ≤ 12
   few-parts a b c p q s = rw (length-append a (b ++ c), length-append b c, p, q, s) (h .few)
@@ -165,7 +155,4 @@ module _ (l : StatusLayout) (h : Lays l) where
       let s = parts (l .fourth) (q .1) [] (subst (AllLe (q .1)) (sym (append-nil (mostIn (l .fourth)))) (q .4)) in
       let e = three-parts f (p .1) (q .1) (p .0) (q .0) (s .0) (s .1) (p .2) (q .2) (s .2) (nothing-left (s .1) (s .4)) in
       let t = padded-parts f (p .0) (q .0) (s .0) e (few-parts (p .0) (q .0) (s .0) (p .3) (q .3) (s .3)) in
-      let x = second-back f (p .0) (q .0) (s .0) (t .0) (t .1) (p .3) (q .3) (p .5) in
-      let y = third-back f (p .0) (q .0) (s .0) (t .0) (t .1) (p .3) (q .3) (q .5) in
-      let z = fourth-back f (p .0) (q .0) (s .0) (t .0) (t .1) (p .3) (q .3) (s .5) in
-      ap (padded 12) ((λ i. x i ++ (y i ++ z i)) ∙ sym e)
+      ap (padded 12) (parts-back (padded 12 f) (p .0) (q .0) (s .0) (t .0) (t .1) (p .3) (q .3) (p .5) (q .5) (s .5) ∙ sym e)

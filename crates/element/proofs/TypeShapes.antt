@@ -2,10 +2,9 @@
 use mathlib.Core.Path.{_≡_, refl, sym, ap, subst, _∙_}
 use mathlib.Core.Bool.{Bool, true, false, _&&_}
 use mathlib.Core.List.{List, [], _∷_, _++_}
-use Prim.Native.Nat.{ℕ, zero, suc, _+_, _-_, _/_, _%_, _^_, _<_, _≤_}
+use Prim.Native.Nat.{ℕ, _+_, _-_, _/_, _%_, _^_, _<_, _≤_}
 use native.Mathlib.Nat.{mod-lt, mod-eq-of-lt}
 use native.Mathlib.Omega.{arith}
-use lib.Arith.{digits-lt}
 use lib.Bits.{and-mask}
 use lib.Dec.{leb}
 use lib.ListN.{getD, replicate}
@@ -14,18 +13,19 @@ use borrow.Author.Tests.{eqb-true, eq-eqb, leb-true, le-leb}
 use Rattle.bits.specs.Choice.{firstOf}
 use Rattle.bits.specs.Bits.{within, only}
 use Rattle.bits.specs.Places.{fourAt}
-use Rattle.bits.specs.Numbers.{big, bytes, Bytes}
+use Rattle.bits.specs.Numbers.{big, bytes, Each, Bytes}
 use Rattle.bits.proofs.Logic.{and-left, and-right, and-both, and-four, below-at, four-pass}
+use Rattle.bits.proofs.Each.{each-at, four-small}
 use Rattle.bits.proofs.Masks.{within-four}
 use Rattle.bits.proofs.Widths.{bytes-big}
 use Rattle.element.specs.declared.types.Kind.{Kind}
-use Rattle.element.specs.StatusLayout.{Piece, StatusLayout, field, reserved, size, mostIn, mostOf, padded, twelve, fieldMask, shiftsOf, cuts, puts, three, holds, fit}
+use Rattle.element.specs.StatusLayout.{Piece, StatusLayout, field, reserved, size, mostIn, mostOf, twelve, fieldMask, shiftsOf, cuts, puts, three, holds, fit}
 use Rattle.element.specs.Rules.{Numbers, codeAllowed, firstClear, shownMask}
 use Rattle.element.specs.Types.{rulesOf}
 use Rattle.element.specs.Status.{headOf, entryIn, statusOffending, mostShown, mostOverall}
-use Rattle.element.proofs.Pieces.{mask-below}
+use Rattle.element.proofs.Pieces.{mask-below, each-padded}
 use Rattle.element.proofs.StatusBothWays.{Lays}
-use Rattle.element.proofs.Shapes.{twelve-cut, three-back, shift-small, listed, shifts-listed, mosts-listed}
+use Rattle.element.proofs.Shapes.{twelve-cut, three-back, all-shifts, listed, shifts-listed, mosts-listed}
 use Rattle.element.proofs.TypeFacts.{facts}
 
 -- the entry, and the bytes, by the places of the fields
@@ -51,38 +51,37 @@ ones-over b w h =
     le-leb _ _ (pow.le-ones w (let m : b % 2 ^ w < 2 ^ w = mod-lt b (pow.pow-pos w) in rw e at m))
 
 -- such are the most that fields hold, and bytes
+abbrev AllOnes : ℕ → Type 0
+AllOnes m = (w : ℕ) × (w ≤ 8) × (m ≡ 2 ^ w - 1)
+
+none : AllOnes 0
+none = (0, omega arith, refl)
+
 abbrev Ones : List ℕ → Type 0
-Ones [] = Unit {0}
-Ones (m ∷ ms) = ((w : ℕ) × (w ≤ 8) × (m ≡ 2 ^ w - 1)) × Ones ms
+Ones ms = Each AllOnes ms
 
 ones-most : (ps : List Piece) → size ps ≤ 8 → Ones (mostIn ps)
 ones-most [] h = tt
 ones-most (field w ∷ ps) h = ((w, omega arith, refl), ones-most ps (omega arith))
 ones-most (reserved w ∷ ps) h = ones-most ps (omega arith)
 
-ones-append : (xs ys : List ℕ) → Ones xs → Ones ys → Ones (xs ++ ys)
-ones-append [] ys p q = q
-ones-append (x ∷ xs) ys p q = (p .0, ones-append xs ys (p .1) q)
+ones-bytes : (ms : List ℕ) → Ones ms → Bytes ms
+ones-bytes [] o = tt
+ones-bytes (m ∷ ms) o =
+    let w = o .0 .0 in
+    let a = pow.ones-lt w in
+    let b : 2 ^ w ≤ 2 ^ 8 = pow.pow-mono (o .0 .1) in
+    (rw (o .0 .2) (omega arith), ones-bytes ms (o .1))
 
-ones-padded : (n : ℕ) (xs : List ℕ) → Ones xs → Ones (padded n xs)
-ones-padded zero xs p = tt
-ones-padded (suc n) [] p = ((0, omega arith, refl), ones-padded n [] tt)
-ones-padded (suc n) (x ∷ xs) p = (p .0, ones-padded n xs (p .1))
-
-ones-at : (xs : List ℕ) (i : ℕ) → Ones xs → (w : ℕ) × (w ≤ 8) × (getD xs i 0 ≡ 2 ^ w - 1)
-ones-at [] i p = (0, omega arith, refl)
-ones-at (x ∷ xs) zero p = p .0
-ones-at (x ∷ xs) (suc i) p = ones-at xs i (p .1)
+ones-at : (xs : List ℕ) (i : ℕ) → Ones xs → AllOnes (getD xs i 0)
+ones-at xs i p = each-at AllOnes xs i none p
 
 all-ones : (l : StatusLayout) → Lays l → Ones (mostOf l)
 all-ones l h =
-    let a = mostIn (l .second) in
-    let b = mostIn (l .third) in
-    let c = mostIn (l .fourth) in
-    let x = ones-most (l .second) (let e = h .second in omega arith) in
-    let y = ones-most (l .third) (let e = h .third in omega arith) in
-    let z = ones-most (l .fourth) (let e = h .fourth in omega arith) in
-    ones-padded 12 (a ++ (b ++ c)) (ones-append a (b ++ c) x (ones-append b c y z))
+    each-padded AllOnes none (mostIn (l .second)) (mostIn (l .third)) (mostIn (l .fourth))
+    (ones-most (l .second) (let e = h .second in omega arith))
+    (ones-most (l .third) (let e = h .third in omega arith))
+    (ones-most (l .fourth) (let e = h .fourth in omega arith))
 
 module _ (m : List ℕ) (o : Ones m) (i : ℕ) where
   fit-within : (b : ℕ) → leb b (getD m i 0) ≡ true → within (getD m i 0) b ≡ true
@@ -91,20 +90,13 @@ module _ (m : List ℕ) (o : Ones m) (i : ℕ) where
   within-fit : (b : ℕ) → within (getD m i 0) b ≡ true → leb b (getD m i 0) ≡ true
   within-fit b h = let w = ones-at m i o in rw (w .2) (ones-over b (w .0) (rw (w .2) at h))
 
-  ones-small : getD m i 0 < 256
-  ones-small =
-      let w = ones-at m i o in
-      let a = pow.ones-lt (w .0) in
-      let b : 2 ^ (w .0) ≤ 2 ^ 8 = pow.pow-mono (w .1) in
-      rw (w .2) (omega arith)
-
 -- four bytes by four
 module _ (m x : List ℕ) (o : Ones m) (a b : ℕ) (h : Bytes (fourAt x b)) where
   abbrev fits : ℕ → Bool
   fits i = leb (getD x (b + i) 0) (getD m (a + i) 0)
 
   four-masks : Bytes (fourAt m a)
-  four-masks = (ones-small m o a, (ones-small m o (a + 1), (ones-small m o (a + 2), (ones-small m o (a + 3), tt))))
+  four-masks = four-small m (ones-bytes m o) a
 
   word-in : leb (getD x b 0) (getD m a 0) ≡ true → fits 1 ≡ true → fits 2 ≡ true → fits 3 ≡ true → within (big (fourAt m a)) (big (fourAt x b)) ≡ true
   word-in p q r s =
@@ -138,8 +130,8 @@ module _ (p q r : ℕ) (m x : List ℕ) (o : Ones (15 ∷ p ∷ q ∷ r ∷ m)) 
       && within (big (fourAt m 4)) (big (fourAt x 8)))
       && within (big (fourAt m 8)) (big (fourAt x 12))
 
-  four-small : (b : ℕ) → b + 3 < 16 → Bytes (fourAt x b)
-  four-small b l = (h b (omega arith), (h (b + 1) (omega arith), (h (b + 2) (omega arith), (h (b + 3) (omega arith), tt))))
+  four-known : (b : ℕ) → b + 3 < 16 → Bytes (fourAt x b)
+  four-known b l = (h b (omega arith), (h (b + 1) (omega arith), (h (b + 2) (omega arith), (h (b + 3) (omega arith), tt))))
 
   fit-in : fit most x 16 ≡ true → words && leb (getD x 0 0) 8 ≡ true
   fit-in t =
@@ -151,10 +143,10 @@ module _ (p q r : ℕ) (m x : List ℕ) (o : Ones (15 ∷ p ∷ q ∷ r ∷ m)) 
       (and-both
       (and-both
       (and-both
-      (word-in k x o 0 0 (four-small 0 (omega arith)) (le-leb (getD x 0 0) 15 (omega arith)) (at 1 (omega arith)) (at 2 (omega arith)) (at 3 (omega arith)))
-      (word-in m x n 0 4 (four-small 4 (omega arith)) (at 4 (omega arith)) (at 5 (omega arith)) (at 6 (omega arith)) (at 7 (omega arith))))
-      (word-in m x n 4 8 (four-small 8 (omega arith)) (at 8 (omega arith)) (at 9 (omega arith)) (at 10 (omega arith)) (at 11 (omega arith))))
-      (word-in m x n 8 12 (four-small 12 (omega arith)) (at 12 (omega arith)) (at 13 (omega arith)) (at 14 (omega arith)) (at 15 (omega arith))))
+      (word-in k x o 0 0 (four-known 0 (omega arith)) (le-leb (getD x 0 0) 15 (omega arith)) (at 1 (omega arith)) (at 2 (omega arith)) (at 3 (omega arith)))
+      (word-in m x n 0 4 (four-known 4 (omega arith)) (at 4 (omega arith)) (at 5 (omega arith)) (at 6 (omega arith)) (at 7 (omega arith))))
+      (word-in m x n 4 8 (four-known 8 (omega arith)) (at 8 (omega arith)) (at 9 (omega arith)) (at 10 (omega arith)) (at 11 (omega arith))))
+      (word-in m x n 8 12 (four-known 12 (omega arith)) (at 12 (omega arith)) (at 13 (omega arith)) (at 14 (omega arith)) (at 15 (omega arith))))
       (at 0 (omega arith))
 
   fit-out : words && leb (getD x 0 0) 8 ≡ true → fit most x 16 ≡ true
@@ -163,10 +155,10 @@ module _ (p q r : ℕ) (m x : List ℕ) (o : Ones (15 ∷ p ∷ q ∷ r ∷ m)) 
       let n = o .1 .1 .1 .1 in
       let s = and-left words (leb (getD x 0 0) 8) t in
       let w = and-four (within (big (15 ∷ p ∷ q ∷ r ∷ [])) (big (fourAt x 0))) (within (big (fourAt m 0)) (big (fourAt x 4))) (within (big (fourAt m 4)) (big (fourAt x 8))) (within (big (fourAt m 8)) (big (fourAt x 12))) s in
-      let a = word-out k x o 0 0 (four-small 0 (omega arith)) (w .0) in
-      let b = word-out m x n 0 4 (four-small 4 (omega arith)) (w .1) in
-      let c = word-out m x n 4 8 (four-small 8 (omega arith)) (w .2) in
-      let d = word-out m x n 8 12 (four-small 12 (omega arith)) (w .3) in
+      let a = word-out k x o 0 0 (four-known 0 (omega arith)) (w .0) in
+      let b = word-out m x n 0 4 (four-known 4 (omega arith)) (w .1) in
+      let c = word-out m x n 4 8 (four-known 8 (omega arith)) (w .2) in
+      let d = word-out m x n 8 12 (four-known 12 (omega arith)) (w .3) in
       and-both (and-both (and-both (and-both (and-both (and-both (and-both (and-both (and-both (and-both (and-both (and-both (and-both (and-both (and-both (and-both refl
       (and-right words (leb (getD x 0 0) 8) t)) (a .1)) (a .2)) (a .3))
       (b .0)) (b .1)) (b .2)) (b .3))
@@ -183,7 +175,7 @@ module _ (k : Kind) (x : List ℕ) (h : (i : ℕ) → i < 16 → getD x i 0 < 25
   pub fits-words : (((within 0x0f010101 (big (fourAt x 0)) && within (m .shownFirst) (big (fourAt x 4))) && within (m .shownNext) (big (fourAt x 8))) && within (m .shownLast) (big (fourAt x 12))) && leb (getD x 0 0) 8 ≡ fit (mostShown k) x 16
   unfolding mostShown
   fits-words =
-      let one : (w : ℕ) × (w ≤ 8) × (1 ≡ 2 ^ w - 1) = (1, omega arith, refl) in
+      let one : AllOnes 1 = (1, omega arith, refl) in
       let o : Ones (15 ∷ 1 ∷ 1 ∷ 1 ∷ mostOf (rulesOf k .status)) = ((4, omega arith, refl), (one, (one, (one, all-ones (rulesOf k .status) (facts k .lays))))) in
       ap (λ (n : Numbers). (((within 0x0f010101 (big (fourAt x 0)) && within (n .shownFirst) (big (fourAt x 4))) && within (n .shownNext) (big (fourAt x 8))) && within (n .shownLast) (big (fourAt x 12))) && leb (getD x 0 0) 8) (facts k .numbered)
       ∙ fit-words 1 1 1 (mostOf (rulesOf k .status)) x o h
@@ -191,8 +183,7 @@ module _ (k : Kind) (x : List ℕ) (h : (i : ℕ) → i < 16 → getD x i 0 < 25
 pub overall-words : (x : List ℕ) → ((i : ℕ) → i < 16 → getD x i 0 < 256)
     → (((within 0x0f000000 (big (fourAt x 0)) && within 0 (big (fourAt x 4))) && within 0 (big (fourAt x 8))) && within 0 (big (fourAt x 12))) && leb (getD x 0 0) 8 ≡ fit mostOverall x 16
 overall-words x h =
-    let none : (w : ℕ) × (w ≤ 8) × (0 ≡ 2 ^ w - 1) = (0, omega arith, refl) in
-    let o : Ones (15 ∷ 0 ∷ 0 ∷ 0 ∷ replicate 12 0) = ((4, omega arith, refl), (none, (none, (none, ones-padded 12 [] tt)))) in
+    let o : Ones (15 ∷ 0 ∷ 0 ∷ 0 ∷ replicate 12 0) = ((4, omega arith, refl), (none, (none, (none, each-padded AllOnes none [] [] [] tt tt tt)))) in
     fit-words 0 0 0 (replicate 12 0) x o h
 
 -- the first refused byte
@@ -239,15 +230,10 @@ module _ (k : Kind) where
   mosts = mostOf (rulesOf k .status)
 
   shifts-word : (i : ℕ) → bytes 4 (big (fourAt shifts i)) ≡ fourAt shifts i
-  shifts-word i =
-      let h = facts k .lays in
-      let a : (j : ℕ) → getD shifts j 0 < 256 = λ j. shift-small (rulesOf k .status) j (h .second) (h .third) (h .fourth) in
-      bytes-big (fourAt shifts i) (a i, (a (i + 1), (a (i + 2), (a (i + 3), tt))))
+  shifts-word i = let h = facts k .lays in bytes-big (fourAt shifts i) (four-small shifts (all-shifts (rulesOf k .status) (h .second) (h .third) (h .fourth)) i)
 
   mosts-word : (i : ℕ) → bytes 4 (big (fourAt mosts i)) ≡ fourAt mosts i
-  mosts-word i =
-      let o = all-ones (rulesOf k .status) (facts k .lays) in
-      bytes-big (fourAt mosts i) (ones-small mosts o i, (ones-small mosts o (i + 1), (ones-small mosts o (i + 2), (ones-small mosts o (i + 3), tt))))
+  mosts-word i = bytes-big (fourAt mosts i) (four-small mosts (ones-bytes mosts (all-ones (rulesOf k .status) (facts k .lays))) i)
 
   abbrev n : Numbers
   n = rulesOf k .numbers

@@ -8,14 +8,18 @@ use native.Mathlib.Omega.{arith}
 use lib.Dec.{leb}
 use lib.ListN.{getD}
 use Rattle.bits.specs.Bits.{num, bitOf, nibble, join}
-use Rattle.bits.proofs.Halves.{nibble-small}
+use Rattle.bits.proofs.Halves.{num-small, nibble-small}
 use Rattle.bits.specs.Places.{fourAt}
 use Rattle.bits.specs.Numbers.{big, bytes, Bytes}
 use Rattle.element.specs.declared.types.Kind.{Kind}
-use Rattle.element.specs.StatusLayout.{mostOf, shiftsOf, cuts, puts, fit}
+use Rattle.element.specs.declared.settings.Settings.{Settings}
+use Rattle.element.specs.declared.verdict.Verdict.{Verdict}
+use Rattle.element.specs.StatusLayout.{StatusLayout, mostOf, shiftsOf, cuts, puts, fit}
 use Rattle.element.specs.Rules.{Numbers}
-use Rattle.element.specs.Types.{rulesOf}
-use Rattle.element.specs.Status.{headOf, firstByte, entryOf, statusBytes, mostShown, mostOverall}
+use Rattle.element.specs.Verdict.{over, judged, currentVerdict}
+use Rattle.element.specs.Types.{rulesOf, voltageStatus, voltageFields, currentStatus, currentFields}
+use Rattle.element.specs.Status.{headOf, firstByte, statusWith, entryOf, statusBytes, mostShown, mostOverall}
+use Rattle.element.proofs.SettingsBothWays.{four}
 use Rattle.element.proofs.TypeFacts.{facts}
 use Rattle.element.proofs.TypeShapes.{entry-cut, bytes-put, first-word, next-word, last-word, twelve-listed, fits-words, overall-words}
 use Rattle.element_status.specs.Words.{fourPut, numberOf, wordsWithin}
@@ -34,22 +38,7 @@ pub first-is : (p d w : Bool) (n : ℕ) {h a : ℕ} → h ≡ nibble false p d w
 first-is p d w n q r = r ∙ ap (λ (h : ℕ). join h n) q ∙ first-made p d w n
 
 nibble-is : (a b c d : Bool) → nibble a b c d ≡ num a % 2 * 8 + (num b % 2 * 4 + (num c % 2 * 2 + (num d % 2 * 1 + 0)))
-nibble-is true true true true = refl
-nibble-is true true true false = refl
-nibble-is true true false true = refl
-nibble-is true true false false = refl
-nibble-is true false true true = refl
-nibble-is true false true false = refl
-nibble-is true false false true = refl
-nibble-is true false false false = refl
-nibble-is false true true true = refl
-nibble-is false true true false = refl
-nibble-is false true false true = refl
-nibble-is false true false false = refl
-nibble-is false false true true = refl
-nibble-is false false true false = refl
-nibble-is false false false true = refl
-nibble-is false false false false = refl
+nibble-is a b c d = omega (arith, num-small a, num-small b, num-small c, num-small d)
 
 pub nibble-made : (a b c d : Bool) {l : ℕ} → l ≡ nibble a b c d → l ≡ num a % 2 * 8 + (num b % 2 * 4 + (num c % 2 * 2 + (num d % 2 * 1 + 0)))
 nibble-made a b c d p = p ∙ nibble-is a b c d
@@ -68,6 +57,22 @@ limits-made f a b c d {l} {x} p q =
     let h : 16 * (f / 64 % 4 * 4 % 16) ≡ bitOf 7 f % 2 * 128 + bitOf 6 f % 2 * 64 = two-high (f / 64) ∙ ap (λ (z : ℕ). z % 2 % 2 * 128 + bitOf 6 f % 2 * 64) (halved f) in
     let m : l % 16 ≡ n = ap (λ (z : ℕ). z % 16) p ∙ mod-eq-of-lt (nibble-small a b c d) ∙ nibble-is a b c d in
     q ∙ (λ i. h i + m i) ∙ add-assoc (bitOf 7 f % 2 * 128) (bitOf 6 f % 2 * 64) n
+
+-- what an element shows, from the settings and the verdict that the calls say
+pub status-by : (l : StatusLayout) (f : Settings → Verdict → ℕ → List ℕ) (r : ℕ) {s t : Settings} {v w : Verdict} {e : List ℕ} → s ≡ t → v ≡ w
+    → e ≡ statusWith l f s v r → e ≡ statusWith l f t w r
+status-by l f r p q h = h ∙ (λ i. statusWith l f (p i) (q i) r)
+
+-- a current shows what a voltage does without an UNDER bit
+without-under : (s : Settings) (hc hw : Bool) (r : ℕ)
+    → let v : Verdict = judged hc hw false false in
+    statusWith voltageStatus voltageFields s v r ≡ statusWith currentStatus currentFields s v r
+without-under s hc hw r = four refl (omega arith) refl refl
+
+pub current-by : (r n : ℕ) (limits : List ℕ) {s t : Settings} {v : Verdict} {e : List ℕ} → s ≡ t → v ≡ currentVerdict r n limits
+    → e ≡ statusWith voltageStatus voltageFields s v r → e ≡ statusWith currentStatus currentFields t (currentVerdict r n limits) r
+current-by r n limits {s} {t} p q h =
+    status-by voltageStatus voltageFields r p q h ∙ without-under t (over r n (getD limits 0 0)) (over r n (getD limits 1 0)) r
 
 -- an entry four fields by four, as cut out of the number that four bytes say
 pub entry-made : (k : Kind) (e a b c : List ℕ) → Bytes (fourAt e 0)

@@ -149,21 +149,10 @@ fn voltage_bytes(set: Settings, v: Verdict, reading: u16) -> [u8; 4]
     ]
 }
 
+// The bytes of a voltage: the verdict on a current has no UNDER bit.
 fn current(stored: [u8; 4], reading: u16, nominal: u16, t: [u8; 4]) -> [u8; 4]
     ensures { λ r. ⌜ r ≡ statusWith currentStatus currentFields (settingsOf Current stored) (currentVerdict reading nominal t) reading ⌝ }
 {
     let v = verdict::of_current(reading, nominal, t);
-    current_bytes(Settings::of(Kind::Current, stored), v, reading)
-}
-
-fn current_bytes(set: Settings, v: Verdict, reading: u16) -> [u8; 4]
-    ensures { λ r. ⌜ r ≡ statusWith currentStatus currentFields set v reading ⌝ }
-{
-    let limits = bits::nibble(v.highwarn, false, v.highcrit, false);
-    [
-        first_byte(set, v.code),
-        bits::join(set.flags1 / 64 % 4 * 4, limits),
-        (reading / 256) as u8,
-        (reading % 256) as u8,
-    ]
+    voltage_bytes(Settings::of(Kind::Current, stored), v, reading)
 }

@@ -1,29 +1,27 @@
 -- The two slots of an element: that they are there and of its type, and the same on shelves with the same front.
 -- Assumes nothing.
 use mathlib.Core.Path.{_≡_, sym, ap, _∙_}
-use mathlib.Core.Bool.{true, not}
+use mathlib.Core.Bool.{true}
 use mathlib.Core.List.{List}
-use Prim.Native.Nat.{ℕ, zero, suc, _+_, _<_, _≤_, _-_}
-use native.Mathlib.Nat.{add-zero}
+use Prim.Native.Nat.{ℕ, _<_}
 use native.Mathlib.Omega.{arith}
 use lib.ListN.{length}
-use borrow.Author.Tests.{lt-ltb, le-ltb}
-use Rattle.bits.proofs.Logic.{fails, below-all, first-at}
 use Rattle.element.specs.Types.{kindOf}
 use Rattle.refusals.specs.declared.Answer.{Answer}
 use Rattle.refusals.specs.declared.Answer.the-variants.{Accepted}
 use Rattle.shelf.specs.Types.{typeCode, elementsOf, typeOf, kindAt}
-use Rattle.shelf.specs.Limits.{mostTypes, HasElement}
+use Rattle.shelf.specs.Limits.{HasElement}
 use Rattle.shelf_formed.specs.Formed.{frontFormed, HasFront, wellFormed}
 use Rattle.shelf_formed.proofs.ElementPut.{length-formed, room}
 use Rattle.shelf_formed.proofs.FrontOfShelf.{front, before-alike, type-alike, kind-alike}
 use Rattle.shelf_formed.proofs.ElementTypes.{front-formed, type-below, type-start, type-end, type-named}
 use Rattle.page.specs.declared.places.Places.{Places}
 use Rattle.page.specs.declared.slots.Slot.{Slot}
-use Rattle.page.specs.Slots.{slotsOf, startOf, inType, slotType, slotAt, HasElements}
+use Rattle.page.specs.Slots.{slotsOf, startOf, slotType, slotAt, HasElements}
 use Rattle.page.proofs.SlotsBefore.{start-next}
 use Rattle.page.specs.Places.{ownSlot, overallSlot, placesOf, HasSlots}
 use Rattle.page.specs.Header.{pageTested, HasPage}
+use Rattle.page.proofs.SlotTypes.{slotted}
 use Rattle.page.proofs.SlotsOfFront.{first-within, end-there}
 use Rattle.shelf_formed.proofs.ElementPut.{shelf-there}
 use Rattle.page.proofs.HeaderBothWays.{tested-has}
@@ -33,35 +31,15 @@ unfolding placesOf startOf
 places-alike s x e j l =
     rw (kind-alike s x e j l, type-alike s x e j, before-alike s x e (typeOf s j) (omega (arith, type-below s j l)))
 
--- a slot stands in the type that it starts after and ends before
 module _ (s : List ℕ) where
-  pub start-up : (t n : ℕ) → startOf s t ≤ startOf s (t + n)
-  start-up t zero = rw add-zero (omega arith)
-  start-up t (suc n) =
-      let e : t + suc n ≡ t + n + 1 = omega arith in
-      rw e (omega (arith, start-up t n, start-next s (t + n)))
-
-  pub slotted : (t i : ℕ) → t < mostTypes → startOf s t ≤ i → i < startOf s (t + 1) → slotType s i ≡ t
-  unfolding slotType
-  slotted t i l a b =
-      first-at (inType s i) mostTypes t l
-      (below-all (fails (inType s i)) t (λ k m. ap not (le-ltb i (startOf s (k + 1)) (later k m))))
-      (lt-ltb i (startOf s (t + 1)) b)
-    where
-      later : (k : ℕ) → k < t → startOf s (k + 1) ≤ i
-      later k m =
-          let e : t ≡ k + 1 + (t - (k + 1)) = omega arith in
-          let u : startOf s (k + 1) ≤ startOf s t = rw (← e) at (start-up (k + 1) (t - (k + 1))) in
-          omega arith
-
   module _ (j : ℕ) (l : j < elementsOf s) where
     own-type : slotType s (ownSlot s j) ≡ typeOf s j
     unfolding startOf
     own-type =
-        slotted (typeOf s j) (ownSlot s j) (type-below s j l) (omega (arith, type-start s j l)) (omega (arith, type-end s j l))
+        slotted s (typeOf s j) (ownSlot s j) (type-below s j l) (omega (arith, type-start s j l)) (omega (arith, type-end s j l))
 
     overall-type : slotType s (overallSlot s j) ≡ typeOf s j
-    overall-type = let t = typeOf s j in slotted t (overallSlot s j) (type-below s j l) (omega arith) (omega (arith, start-next s t))
+    overall-type = let t = typeOf s j in slotted s t (overallSlot s j) (type-below s j l) (omega arith) (omega (arith, start-next s t))
 
     -- both are of the element's type
     pub own-kind : slotAt s (ownSlot s j) .kind ≡ kindAt s j

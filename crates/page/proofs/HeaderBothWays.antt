@@ -1,8 +1,8 @@
 -- A header that passed its tests is the one that would be written, and one that was written passes them. Assumes nothing.
 use mathlib.Core.Path.{_≡_, refl, sym, ap, ap₂, _∙_}
 use mathlib.Core.Bool.{true}
-use mathlib.Core.List.{List, [], _∷_, _++_}
-use Prim.Native.Nat.{ℕ, zero, suc, _+_, _<_, _-_}
+use mathlib.Core.List.{List, _∷_, _++_}
+use Prim.Native.Nat.{ℕ, _+_, _<_, _-_}
 use native.Mathlib.Omega.{arith}
 use lib.Dec.{eqb, leb}
 use lib.ListN.{length, getD, take}
@@ -10,6 +10,7 @@ use borrow.Author.Tests.{eqb-true, le-leb, eq-eqb}
 use Rattle.bits.specs.Numbers.{big, bytes, Bytes}
 use Rattle.bits.specs.Places.{twoAt, fourAt}
 use Rattle.bits.specs.Rows.{joined}
+use Rattle.bits.proofs.Each.{byte-small, four-small}
 use Rattle.bits.proofs.Widths.{big-bytes, bytes-big}
 use Rattle.bits.proofs.Rows.{take-four}
 use Rattle.refusals.specs.declared.Refusal.the-variants.{PageTooShort, PageCode, PageLength}
@@ -22,20 +23,9 @@ use Rattle.page.specs.Header.{shelfTested, pageTested, HasPage, lengthSa
 use Rattle.page.proofs.HeaderTests.{frame-passed, head-passed, head-parts, tested-formed}
 use Rattle.page.proofs.PagePut.{length-page}
 
--- each byte of a list of bytes is one
-pub byte-small : (s : List ℕ) → Bytes s → (k : ℕ) → getD s k 0 < 256
-byte-small [] h k = omega arith
-byte-small (b ∷ s) h zero = h .0
-byte-small (b ∷ s) h (suc k) = byte-small s (h .1) k
-
 -- equal numbers are said by equal bytes
 same-four : (s p : List ℕ) (j k : ℕ) → Bytes s → Bytes p → big (fourAt s j) ≡ big (fourAt p k) → fourAt s j ≡ fourAt p k
-same-four s p j k hs hp e =
-    let x = byte-small s hs in
-    let y = byte-small p hp in
-    sym (bytes-big (fourAt s j) (x j, (x (j + 1), (x (j + 2), (x (j + 3), tt)))))
-    ∙ ap (bytes 4) e
-    ∙ bytes-big (fourAt p k) (y k, (y (k + 1), (y (k + 2), (y (k + 3), tt))))
+same-four s p j k hs hp e = sym (bytes-big (fourAt s j) (four-small s hs j)) ∙ ap (bytes 4) e ∙ bytes-big (fourAt p k) (four-small p hp k)
 
 -- a frame that passed has the code, and says the length
 pub frame-parts : (p : List ℕ) (code : ℕ) → framed p code ≡ Accepted → (getD p 0 0 ≡ code) × (lengthSaid p ≡ true)

@@ -1,21 +1,21 @@
 -- The tests of a header one after the other, and the header written. Assumes nothing.
 use mathlib.Core.Path.{_≡_, refl, sym, ap, _∙_}
 use mathlib.Core.Bool.{true, false}
-use mathlib.Core.List.{List, [], _∷_, _++_}
-use Prim.Native.Nat.{ℕ, _/_, _%_, _-_, _≤_}
+use mathlib.Core.List.{List, [], _∷_}
+use Prim.Native.Nat.{ℕ, _-_, _≤_}
 use native.Mathlib.Omega.{arith}
 use lib.Dec.{eqb, leb}
-use lib.ListN.{length, getD, drop}
+use lib.ListN.{length, getD}
 use borrow.Author.Tests.{eq-eqb, ne-eqb, eqb-true}
 use Rattle.bits.specs.Numbers.{bytes}
 use Rattle.bits.specs.Places.{fourAt, putFour}
-use Rattle.bits.proofs.Rows.{put-next}
 use Rattle.bits.proofs.FourPut.{length-put}
+use Rattle.bits.proofs.RowsPut.{four-behind}
 use Rattle.refusals.specs.declared.Refusal.the-variants.{ShelfNotWellFormed, PageTooShort, PageCode, PageLength, Generation}
 use Rattle.refusals.specs.declared.Refusal.{Refusal}
 use Rattle.refusals.specs.declared.Answer.{Answer}
 use Rattle.refusals.specs.declared.Answer.the-variants.{Accepted, Refused}
-use Rattle.refusals.specs.Outcomes.{next}
+use Rattle.refusals.specs.Outcomes.{next, placed}
 use Rattle.refusals.proofs.AcceptedTests.{held, held-both}
 use Rattle.refusals.proofs.Stages.{stopped, gone-on}
 use Rattle.shelf.specs.Limits.{HasTypes}
@@ -124,13 +124,12 @@ head-length c out code own n e =
     ap length e ∙ length-put (putFour out 0 f) 4 (fourAt c 0) ∙ length-put out 0 f
 
 -- it stands before what stood behind it
-pub head-put : (c out : List ℕ) (code own n : ℕ) → 8 ≤ length out → headPut c out code own n ≡ header c code own n ++ drop 8 out
+pub head-put : (c out : List ℕ) (code own n : ℕ) → 8 ≤ length out → headPut c out code own n ≡ placed (header c code own n) out
 unfolding headPut header
 head-put c out code own n h =
-    let x = slotPlace n - 4 in
-    let e = put-next [] out 0 code own (x / 256 % 256) (x % 256) refl (omega arith) in
-    ap (λ (o : List ℕ). putFour o 4 (fourAt c 0)) e
-    ∙ put-next (code ∷ own ∷ x / 256 % 256 ∷ x % 256 ∷ []) out 4 (getD c 0 0) (getD c 1 0) (getD c 2 0) (getD c 3 0) refl (omega arith)
+    let first : List ℕ = code ∷ own ∷ bytes 2 (slotPlace n - 4) in
+    ap (λ (o : List ℕ). putFour o 4 (fourAt c 0)) (four-behind [] out first 0 refl refl (omega arith))
+    ∙ four-behind first out (fourAt c 0) 4 refl refl (omega arith)
 
 -- an accepted shelf is well formed, and has all its types
 pub shelf-formed : (s : List ℕ) {a : Answer} → a ≡ shelfTested s → a ≡ Accepted → wellFormed s ≡ true

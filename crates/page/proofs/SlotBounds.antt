@@ -1,5 +1,5 @@
 -- How many slots a page of a well-formed shelf or configuration has. Assumes nothing.
-use mathlib.Core.Path.{_≡_}
+use mathlib.Core.Path.{_≡_, sym, _∙_}
 use mathlib.Core.Bool.{true}
 use mathlib.Core.List.{List}
 use Prim.Native.Nat.{ℕ, _+_, _≤_}
@@ -8,10 +8,16 @@ use lib.Dec.{eqb}
 use lib.ListN.{length}
 use borrow.Author.Tests.{eqb-true}
 use Rattle.bits.proofs.Logic.{and-left, and-right}
+use Rattle.refusals.specs.declared.Refusal.the-variants.{ShelfNotWellFormed}
+use Rattle.refusals.specs.declared.Answer.{Answer}
+use Rattle.refusals.specs.declared.Answer.the-variants.{Accepted}
+use Rattle.refusals.specs.Outcomes.{next}
+use Rattle.refusals.proofs.AcceptedTests.{held, held-both}
 use Rattle.shelf.specs.Limits.{mostTypes, mostElements, elementPlace}
 use Rattle.shelf_formed.specs.Formed.{frontFormed, HasFront, configurationFormed}
 use Rattle.shelf_formed.proofs.FormedShelf.{few-types, few-elements}
 use Rattle.page.specs.Slots.{slotsOf}
+use Rattle.page.specs.Header.{configurationTested}
 
 module _ (c : List ℕ) where
   pub configuration-front : configurationFormed c ≡ true → frontFormed c ≡ true
@@ -23,6 +29,11 @@ module _ (c : List ℕ) where
   unfolding configurationFormed
   configuration-there h =
       (configuration-front h, omega (arith, eqb-true (length c) (elementPlace 0) (and-right (frontFormed c) (eqb (length c) (elementPlace 0)) h)))
+
+  -- and so where a call was accepted that tests the configuration first
+  pub accepted-there : (rest : Answer) {a : Answer} → a ≡ next (configurationTested c) rest → a ≡ Accepted → HasFront c
+  accepted-there rest h u =
+      configuration-there (held (configurationFormed c) ShelfNotWellFormed Accepted (held-both (configurationTested c) rest (sym h ∙ u) .0) .0)
 
   module _ (h : frontFormed c ≡ true) where
     pub slots-bound : slotsOf c ≤ mostTypes + mostElements

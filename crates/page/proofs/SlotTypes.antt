@@ -1,29 +1,27 @@
 -- A slot stands among the slots of its type. Assumes nothing.
-use mathlib.Core.Path.{_≡_, refl}
+use mathlib.Core.Path.{_≡_}
 use mathlib.Core.List.{List}
-use Prim.Native.Nat.{ℕ, zero, suc, _+_, _<_, _≤_}
-use native.Mathlib.Numerals.{add-one}
+use Prim.Native.Nat.{ℕ, _+_, _<_, _≤_}
 use native.Mathlib.Omega.{arith}
-use borrow.Author.Tests.{ltb-true, ltb-false}
-use Rattle.bits.specs.Choice.{firstBelow}
-use Rattle.bits.proofs.Logic.{first-passes, first-fails}
+use Rattle.bits.proofs.Ends.{part-start, part-end, part-is}
 use Rattle.shelf.specs.Limits.{mostTypes}
-use Rattle.page.specs.Slots.{startOf, inType, slotType}
-use Rattle.page.proofs.SlotsBefore.{start-none}
+use Rattle.page.specs.Slots.{startOf, slotType}
+use Rattle.page.proofs.SlotsBefore.{start-none, start-up}
 
 -- a slot does not stand before its type
 pub start-below : (c : List ℕ) (i : ℕ) → startOf c (slotType c i) ≤ i
 unfolding slotType
-start-below c i = go (firstBelow (inType c i) mostTypes) refl
-  where
-    go : (t : ℕ) → firstBelow (inType c i) mostTypes ≡ t → startOf c t ≤ i
-    go zero e = omega (arith, start-none c)
-    go (suc t) e = rw (← (add-one t)) (ltb-false i (startOf c (t + 1)) (first-fails (inType c i) mostTypes t (omega arith)))
+start-below c i = part-start (startOf c) i mostTypes (omega (arith, start-none c))
 
 -- nor behind it
 pub type-ends : (c : List ℕ) (i : ℕ) → slotType c i < mostTypes → i < startOf c (slotType c i + 1)
 unfolding slotType
-type-ends c i l = ltb-true i (startOf c (firstBelow (inType c i) mostTypes + 1)) (first-passes (inType c i) mostTypes l)
+type-ends c i l = part-end (startOf c) i mostTypes l
+
+-- and it stands so in no other type
+pub slotted : (c : List ℕ) (t i : ℕ) → t < mostTypes → startOf c t ≤ i → i < startOf c (t + 1) → slotType c i ≡ t
+unfolding slotType
+slotted c t i l a b = part-is (startOf c) i mostTypes (start-up c) t l a b
 
 -- each type has a slot of its own
 pub types-below : (c : List ℕ) (t : ℕ) → t ≤ startOf c t

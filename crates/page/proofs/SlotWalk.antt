@@ -10,6 +10,7 @@ use borrow.Author.Tests.{ltb-true, ltb-false, eq-eqb, ne-eqb, eqb-true, eqb-fals
 use Rattle.bits.specs.Choice.{pick}
 use Rattle.bits.specs.Bits.{num}
 use Rattle.bits.proofs.Logic.{by-case}
+use Rattle.bits.proofs.Halves.{num-small}
 use Rattle.element.specs.declared.types.Kind.{Kind}
 use Rattle.element.specs.Types.{kindOf}
 use Rattle.shelf.specs.declared.types.Run.{Run}
@@ -25,13 +26,8 @@ use Rattle.page.specs.declared.places.Places.{Places}
 use Rattle.page.specs.Slots.{slotsOf, startOf, slotType, isOverall, slotAt, slotRunOf, slotRun, slotCarried, slotIn}
 use Rattle.page.specs.Places.{placesOf, placesIn}
 use Rattle.page.proofs.SlotsBefore.{start-none, start-next}
-use Rattle.page.proofs.SlotTypes.{start-below, type-ends, types-below}
+use Rattle.page.proofs.SlotTypes.{start-below, type-ends, slotted, types-below}
 use Rattle.page.proofs.SlotsOfFront.{in-last, slot-below, slot-end}
-use Rattle.page.proofs.ElementSlots.{slotted}
-
-num-small : (b : Bool) → num b ≤ 1
-num-small true = omega arith
-num-small false = omega arith
 
 module _ (c : List ℕ) (w : frontFormed c ≡ true) where
   -- still before the end of the type

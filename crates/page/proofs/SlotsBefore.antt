@@ -1,13 +1,13 @@
 -- How many slots stand before a type, one type after the other. Assumes nothing.
 use mathlib.Core.Path.{_≡_}
 use mathlib.Core.List.{List}
-use Prim.Native.Nat.{ℕ, _+_, _<_}
+use Prim.Native.Nat.{ℕ, _+_, _<_, _≤_}
 use native.Mathlib.Omega.{arith}
 use lib.ListN.{getD}
 use mir.Val.{Fits}
 use mir.Syntax.{w8}
 use Rattle.shelf.specs.Types.{typesOf, typeCount, elementsOf}
-use Rattle.shelf.proofs.ElementsBefore.{before-none, before-next, before-small}
+use Rattle.shelf.proofs.ElementsBefore.{before-none, before-next, before-up, before-small}
 use Rattle.shelf.specs.Limits.{mostTypes}
 use Rattle.page.specs.Slots.{slotsOf, startOf}
 
@@ -18,6 +18,10 @@ start-none c = omega (arith, before-none c)
 pub start-next : (c : List ℕ) (t : ℕ) → startOf c (t + 1) ≡ startOf c t + typeCount c t + 1
 unfolding startOf
 start-next c t = omega (arith, before-next c t)
+
+pub start-up : (c : List ℕ) (t m : ℕ) → t ≤ m → startOf c t ≤ startOf c m
+unfolding startOf
+start-up c t m l = omega (arith, before-up c t m l)
 
 pub slots-are : (c : List ℕ) {n m : ℕ} → n ≡ typesOf c → m ≡ elementsOf c → n + m ≡ slotsOf c
 unfolding slotsOf

@@ -7,16 +7,20 @@ use native.Mathlib.Omega.{arith}
 use lib.Dec.{eqb}
 use lib.ListN.{getD}
 use lib.Seq.{take-all}
-use borrow.Author.Tests.{eqb-true, eq-eqb, ltb-false}
-use Rattle.bits.specs.Choice.{pick, offenceIn}
+use borrow.Author.Tests.{eqb-true, ltb-false}
+use Rattle.bits.specs.Choice.{pick}
 use Rattle.bits.specs.Bits.{bit, only, nibble}
 use Rattle.bits.specs.Places.{fourAt}
-use Rattle.bits.proofs.Offence.{row-fine}
+use Rattle.bits.proofs.Each.{byte-small}
+use Rattle.bits.proofs.Offence.{first-fine, row-fine}
 use Rattle.bits.proofs.Logic.{pick-yes, pick-no, below-all, by-case, all-four}
 use Rattle.bits.proofs.Halves.{again-byte}
 use Rattle.bits.specs.Numbers.{Bytes}
+use Rattle.bits.specs.Rows.{joined}
 use Rattle.bits.proofs.Rows.{joined-same, fours}
 use Rattle.refusals.specs.declared.Answer.the-variants.{Accepted}
+use Rattle.record_head.specs.Head.{countTested}
+use Rattle.record_head.proofs.Counted.{count-back}
 use Rattle.shelf.specs.Limits.{mostTypes, mostElements}
 use Rattle.shelf_formed.specs.Formed.{configurationFormed}
 use Rattle.element.specs.StatusLayout.{fit}
@@ -27,14 +31,14 @@ use Rattle.page.specs.declared.slots.Slot.{Slot}
 use Rattle.page.specs.Slots.{slotsOf, slotAt, slotPlace}
 use Rattle.page.specs.Header.{headed}
 use Rattle.page.proofs.SlotBounds.{configuration-front, slots-bound}
-use Rattle.page.proofs.HeaderBothWays.{byte-small, length-tested, header-again}
+use Rattle.page.proofs.HeaderBothWays.{length-tested, header-again}
 use Rattle.shelf_status.specs.ShelfStatus.{bitsByte}
 use Rattle.status_page.specs.Page.{slotBytes, slotRow, pageWith}
-use Rattle.status_record.specs.Entries.{entryAt, bitsAt, entriesIn}
+use Rattle.status_record.specs.Entries.{entryAt, bitsAt}
 use Rattle.status_reading.proofs.Refusals.{read-parts, shown-length}
 use Rattle.status_reading.specs.Read.{slotOffending, offence, statusRead, slotShown, bitsOn, statusRecord}
 use Rattle.status_rewritten.specs.Rewritten.{slotMost, entryFormed, entriesFormed, entriesTested, recordTested, pageAgain}
-use Rattle.status_record.proofs.WholeRecord.{bits-back, bits-fine, count-back, entry-back}
+use Rattle.status_record.proofs.WholeRecord.{bits-back, bits-fine, entry-back}
 
 slot-small : (c p : List ℕ) (i : ℕ) → slotOffending c p i ≤ 4
 unfolding slotOffending
@@ -48,11 +52,7 @@ slot-small c p i = go (slotAt c i .overall)
 module _ (c p : List ℕ) (n : ℕ) (h : offence c p n ≡ slotPlace n) where
   pub own-fine : only (2 ∷ 1 ∷ []) (getD p 1 0) ≡ true
   unfolding offence
-  own-fine = go (only (2 ∷ 1 ∷ []) (getD p 1 0)) h
-    where
-      go : (t : Bool) → pick t (offenceIn slotPlace (slotOffending c p) n) 1 ≡ slotPlace n → t ≡ true
-      go true e = refl
-      go false e = absurd (omega arith)
+  own-fine = first-fine slotPlace (slotOffending c p) n (only (2 ∷ 1 ∷ []) (getD p 1 0)) (λ e. omega (arith, e)) h
 
   pub slot-fine : (i : ℕ) → i < n → slotOffending c p i ≡ 4
   unfolding offence
@@ -137,7 +137,7 @@ module _ (c p rest : List ℕ) (hc : Bytes c) (hp : Bytes p) (a : statusRead c p
 
   entry-told : (i : ℕ) → i < slotsOf c → entryAt record-told i ≡ slotShown c p i
   unfolding statusRecord
-  entry-told i l = entry-back (bitsOn p) (slotShown c p) (shown-length c p) (slotsOf c) rest (omega (arith, few)) i l
+  entry-told i l = entry-back (bitsOn p) (slotShown c p) (shown-length c p) (slotsOf c) rest i l
 
   entry-fine : (i : ℕ) → i < slotsOf c → entryFormed c record-told i ≡ true
   unfolding entryFormed
@@ -146,18 +146,18 @@ module _ (c p rest : List ℕ) (hc : Bytes c) (hp : Bytes p) (a : statusRead c p
   pub tested-again : recordTested c record-told ≡ Accepted
   unfolding recordTested entriesTested entriesFormed statusRecord
   tested-again =
-      let n : entriesIn record-told ≡ slotsOf c = count-back (bitsOn p) (slotShown c p) (shown-length c p) (slotsOf c) rest (omega (arith, few)) in
+      let n : countTested record-told (slotsOf c) ≡ Accepted = count-back _ _ (slotsOf c) (joined (slotShown c p) (slotsOf c) ++ rest) (omega (arith, few)) in
       rw (
         passed .0,
-        eq-eqb (entriesIn record-told) (slotsOf c) n,
-        bits-fine (bitsOn p) (slotShown c p) (shown-length c p) (slotsOf c) rest (omega (arith, few)),
+        n,
+        bits-fine (bitsOn p) (slotShown c p) (shown-length c p) (slotsOf c) rest,
         below-all (entryFormed c record-told) (slotsOf c) entry-fine,
       )
 
   bits-told : bitsByte (bitsAt record-told) ≡ getD p 1 0
   unfolding statusRecord bitsOn
   bits-told =
-      ap bitsByte (bits-back (bitsOn p) (slotShown c p) (shown-length c p) (slotsOf c) rest (omega (arith, few)))
+      ap bitsByte (bits-back (bitsOn p) (slotShown c p) (shown-length c p) (slotsOf c) rest)
       ∙ own-again (getD p 1 0) (byte-small p hp 1) (own-fine c p (slotsOf c) no-offence)
 
   pub page-again : pageAgain c record-told ≡ p

@@ -1,29 +1,20 @@
 -- The run of an element: its type with the elements of that type; and the run of the next, from it. Assumes nothing.
 use mathlib.Core.Path.{_≡_, refl, sym, ap, _∙_}
-use mathlib.Core.Bool.{Bool, true, false, not}
+use mathlib.Core.Bool.{true, not}
 use mathlib.Core.List.{List}
 use Prim.Native.Nat.{ℕ, zero, suc, _+_, _<_, _≤_}
 use native.Mathlib.Numerals.{add-one}
 use native.Mathlib.Omega.{arith}
 use borrow.Author.Tests.{lt-ltb, le-ltb, ltb-true, ltb-false}
 use lib.Dec.{ltb}
-use Rattle.bits.specs.Choice.{pick, allBelow, firstBelow}
-use Rattle.bits.proofs.Logic.{by-case, below-all, below-next, first-at, first-none, first-fails}
+use Rattle.bits.specs.Choice.{allBelow}
+use Rattle.bits.proofs.Logic.{by-case, below-all, below-next, first-at, first-none, first-bound, first-fails}
 use Rattle.element.specs.declared.types.Kind.{Kind}
 use Rattle.element.specs.Types.{kindOf}
 use Rattle.shelf.specs.declared.types.Run.{Run}
 use Rattle.shelf.specs.Limits.{mostTypes}
 use Rattle.shelf.specs.Types.{typeCode, typeCount, before, within, endedBy, typeOf, kindAt, runWith, runOf, runAt, carried}
 use Rattle.shelf.proofs.ElementsBefore.{before-none, before-next}
-
-pub first-bound : (f : ℕ → Bool) (n : ℕ) → firstBelow f n ≤ n
-first-bound f zero = omega arith
-first-bound f (suc n) = go (first-bound f n) (ltb (firstBelow f n) n) (f n)
-  where
-    go : firstBelow f n ≤ n → (t b : Bool) → pick t (firstBelow f n) (pick b n (suc n)) ≤ suc n
-    go l true b = omega arith
-    go l false true = omega arith
-    go l false false = omega arith
 
 pub run-made : (s : List ℕ) {t a e b : ℕ} {k : Kind} → b ≡ typeCode s t → k ≡ kindOf b → record { kind = k; number = t; before = a; end = e } ≡ runWith s t a e
 run-made s q h = rw (h, q)

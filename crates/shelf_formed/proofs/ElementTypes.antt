@@ -1,51 +1,41 @@
 -- The type of an element is the one among whose elements it stands, and a well-formed shelf serves it. Assumes nothing.
-use mathlib.Core.Path.{_≡_, refl, sym, _∙_}
-use mathlib.Core.Bool.{Bool, true, false, _&&_}
+use mathlib.Core.Path.{_≡_}
+use mathlib.Core.Bool.{true, _&&_}
 use mathlib.Core.List.{List}
-use Prim.Native.Nat.{ℕ, zero, suc, _+_, _<_, _≤_, _-_}
-use native.Mathlib.Numerals.{add-one}
+use Prim.Native.Nat.{ℕ, _+_, _<_, _≤_}
 use native.Mathlib.Omega.{arith}
-use lib.Dec.{eqb, leb, ltb}
-use lib.ListN.{length, getD}
-use borrow.Author.Tests.{ltb-true, ltb-false, lt-ltb, eqb-true}
-use Rattle.bits.specs.Choice.{pick, firstBelow}
-use Rattle.bits.proofs.Logic.{never, and-left, and-right, below-at, first-passes, first-fails}
+use lib.Dec.{eqb, ltb}
+use lib.ListN.{length}
+use borrow.Author.Tests.{ltb-true, ltb-false}
+use Rattle.bits.proofs.Logic.{by-case, and-left}
+use Rattle.bits.proofs.Ends.{part-start, part-end, part-there, part-is}
 use Rattle.element.specs.Types.{served}
-use Rattle.shelf.specs.Limits.{mostTypes, mostElements, elementPlace, mostInType, mostText, typeSize, typePlace}
-use Rattle.shelf.specs.Types.{typesOf, typeCode, typeCount, textLength, before, elementsOf, within, typeOf}
-use Rattle.shelf_formed.specs.Formed.{headFormed, typeFormed, typeByteEmpty, typeEmpty, slotFormed, textFormed, typesFormed, elementsFormed, frontFormed, wellFormed}
-use Rattle.shelf.proofs.ElementsBefore.{before-none, before-next}
-
--- a test that passes cannot be one that fails
-both : {A : Type 0} (b : Bool) → b ≡ true → b ≡ false → A
-both b p q = never (sym p ∙ q)
+use Rattle.shelf.specs.Limits.{mostTypes, elementPlace}
+use Rattle.shelf.specs.Types.{typesOf, typeCode, typeCount, before, elementsOf, typeOf}
+use Rattle.shelf.proofs.ElementsBefore.{before-none, before-next, before-up}
+use Rattle.shelf_formed.specs.Formed.{elementsFormed, frontFormed, wellFormed}
+use Rattle.shelf_formed.proofs.FormedShelf.{in-type, type-clear}
 
 module _ (s : List ℕ) (j : ℕ) (h : j < elementsOf s) where
   -- it stands in one of the types
   pub type-below : typeOf s j < mostTypes
   unfolding typeOf elementsOf
-  type-below = go (ltb (firstBelow (within s j) mostTypes) mostTypes) refl
-    where
-      go : (t : Bool) → ltb (firstBelow (within s j) mostTypes) mostTypes ≡ t → firstBelow (within s j) mostTypes < mostTypes
-      go true e = ltb-true _ mostTypes e
-      go false e =
-          let l = ltb-false (firstBelow (within s j) mostTypes) mostTypes e in
-          both (within s j (mostTypes - 1)) (lt-ltb j (before s mostTypes) h) (first-fails (within s j) mostTypes (mostTypes - 1) (omega arith))
+  type-below = part-there (before s) j mostTypes (omega (arith, before-none s)) h
 
   -- before the end of its type
   pub type-end : j < before s (typeOf s j + 1)
   unfolding typeOf
-  type-end = ltb-true j (before s (typeOf s j + 1)) (first-passes (within s j) mostTypes type-below)
+  type-end = part-end (before s) j mostTypes type-below
 
   -- and not before its start
   pub type-start : before s (typeOf s j) ≤ j
   unfolding typeOf
-  type-start = go (firstBelow (within s j) mostTypes) refl
-    where
-      go : (t : ℕ) → firstBelow (within s j) mostTypes ≡ t → before s t ≤ j
-      go zero e = omega (arith, before-none s)
-      go (suc t) e =
-          rw (← (add-one t)) (ltb-false j (before s (t + 1)) (first-fails (within s j) mostTypes t (omega arith)))
+  type-start = part-start (before s) j mostTypes (omega (arith, before-none s))
+
+-- and it stands so in no other type
+pub typed : (s : List ℕ) (t j : ℕ) → t < mostTypes → before s t ≤ j → j < before s (t + 1) → typeOf s j ≡ t
+unfolding typeOf
+typed s t j l a b = part-is (before s) j mostTypes (before-up s) t l a b
 
 -- the front of a well-formed shelf is formed
 pub front-formed : (s : List ℕ) → wellFormed s ≡ true → frontFormed s ≡ true
@@ -55,35 +45,14 @@ front-formed s w =
     and-left (frontFormed s) l (and-left (frontFormed s && l) (elementsFormed s (elementsOf s)) w)
 
 module _ (s : List ℕ) (j : ℕ) (w : frontFormed s ≡ true) (h : j < elementsOf s) where
-  slot : slotFormed s (typesOf s) (typeOf s j) ≡ true
-  unfolding frontFormed typesFormed
-  slot =
-      let types = and-right (headFormed s) (typesFormed s (typesOf s)) (and-left (headFormed s && typesFormed s (typesOf s)) (leb (elementsOf s) mostElements) w) in
-      below-at (slotFormed s (typesOf s)) mostTypes types (typeOf s j) (type-below s j h)
-
   -- a type past the last has no elements
-  none-past : typeEmpty s (typeOf s j) ≡ true → ⊥
-  unfolding typeEmpty
-  none-past e =
-      let t = typeOf s j in
-      let z = eqb-true (typeCount s t) 0 (below-at (typeByteEmpty s t) typeSize e 1 (omega arith)) in
-      omega (arith, type-start s j h, type-end s j h, before-next s t, z)
-
   pub type-named : typeOf s j < typesOf s
-  unfolding slotFormed
-  type-named = go (ltb (typeOf s j) (typesOf s)) refl slot
-    where
-      go : (b : Bool) → ltb (typeOf s j) (typesOf s) ≡ b → pick b (typeFormed s (typeOf s j)) (typeEmpty s (typeOf s j)) ≡ true → typeOf s j < typesOf s
-      go true e q = ltb-true (typeOf s j) (typesOf s) e
-      go false e q = absurd (none-past q)
+  type-named =
+      let t = typeOf s j in
+      by-case (ltb t (typesOf s)) (ltb-true t (typesOf s))
+      (λ e.
+      let z : typeCount s t ≡ 0 = type-clear s w t 1 (ltb-false t (typesOf s) e) (type-below s j h) (omega arith) in
+      absurd (omega (arith, type-start s j h, type-end s j h, before-next s t, z)))
 
   pub type-served : served (typeCode s (typeOf s j)) ≡ true
-  unfolding slotFormed typeFormed
-  type-served =
-      let t = typeOf s j in
-      let a = served (typeCode s t) in
-      let b = leb (typeCount s t) mostInType in
-      let c = leb (textLength s t) mostText in
-      let d = eqb (getD s (typePlace t + 3) 0) 0 in
-      let q : typeFormed s t ≡ true = rw (lt-ltb t (typesOf s) type-named) at slot in
-      and-left a b (and-left (a && b) c (and-left ((a && b) && c) d (and-left (((a && b) && c) && d) (textFormed s t) q)))
+  type-served = in-type s w (typeOf s j) type-named .0

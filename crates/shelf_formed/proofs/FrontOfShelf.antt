@@ -2,8 +2,7 @@
 use mathlib.Core.Path.{_≡_, sym, ap, ap₂, _∙_}
 use mathlib.Core.Bool.{Bool, true, _&&_}
 use mathlib.Core.List.{List}
-use Prim.Native.Nat.{ℕ, zero, suc, _+_, _<_, _≤_}
-use native.Mathlib.Numerals.{add-one}
+use Prim.Native.Nat.{ℕ, _+_, _<_, _≤_}
 use native.Mathlib.Omega.{arith}
 use lib.Dec.{eqb, leb, ltb}
 use lib.ListN.{length, getD, take}
@@ -12,11 +11,11 @@ use borrow.Author.Tests.{eq-eqb}
 use Rattle.bits.specs.Choice.{pick, allBelow}
 use Rattle.bits.specs.Bits.{printable}
 use Rattle.bits.proofs.Logic.{and-both, all-same, first-same}
+use Rattle.bits.proofs.Sums.{sum-same}
 use Rattle.element.specs.Types.{served, kindOf}
 use Rattle.shelf.specs.Limits.{mostTypes, mostElements, mostInType, mostText, typeSize, typePlace, textPlace, elementPlace}
 use Rattle.shelf.specs.Types.{typesOf, typeCode, typeCount, textLength, before, elementsOf, within, typeOf, kindAt}
 use Rattle.shelf_formed.specs.Formed.{headFormed, textByteFormed, textFormed, typeFormed, typeByteEmpty, typeEmpty, slotFormed, typesFormed, frontFormed, wellFormed, configurationFormed}
-use Rattle.shelf.proofs.ElementsBefore.{before-none, before-next}
 use Rattle.shelf_formed.proofs.ElementPut.{length-formed}
 use Rattle.shelf_formed.proofs.ElementTypes.{front-formed, type-below}
 
@@ -65,10 +64,8 @@ module _ (s : List ℕ) where
     slot-same n = ap₂ (λ (a b : Bool). pick (ltb t n) a b) type-same empty-same
 
   pub before-same : (t : ℕ) → t ≤ mostTypes → before (front s) t ≡ before s t
-  before-same zero h = before-none (front s) ∙ sym (before-none s)
-  before-same (suc t) h =
-      rw (← (add-one t))
-      (before-next (front s) t ∙ ap₂ _+_ (before-same t (omega arith)) (count-same t (omega arith)) ∙ sym (before-next s t))
+  unfolding before
+  before-same t h = sum-same (typeCount (front s)) (typeCount s) t (λ i l. count-same i (omega arith))
 
   pub elements-same : elementsOf (front s) ≡ elementsOf s
   unfolding elementsOf

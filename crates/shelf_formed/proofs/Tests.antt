@@ -1,24 +1,24 @@
 -- The tests of a text, a type and an element, from what the calls say. Assumes nothing.
 use mathlib.Core.Path.{_≡_, refl, sym, ap, _∙_}
 use mathlib.Core.Bool.{Bool, true, false, _&&_, and-true, and-false}
-use mathlib.Core.List.{List, [], _∷_}
+use mathlib.Core.List.{List}
 use Prim.Native.Nat.{ℕ, _+_, _<_, _≤_}
-use native.Mathlib.Omega.{arith}
 use lib.Dec.{eqb, leb}
 use lib.ListN.{getD}
-use borrow.Author.Tests.{lt-ltb, le-ltb, lt-leb, le-leb, eq-eqb, ne-eqb, eqb-true, eqb-false}
+use borrow.Author.Tests.{lt-ltb, le-ltb, lt-leb, le-leb}
 use Rattle.bits.specs.Choice.{allBelow}
 use Rattle.bits.specs.Bits.{printable}
 use Rattle.bits.specs.Places.{fourAt}
 use Rattle.bits.specs.Numbers.{big}
-use Rattle.bits.proofs.Logic.{by-case, below-cut}
+use Rattle.bits.proofs.Widths.{zeros-said}
+use Rattle.bits.proofs.Logic.{below-cut}
 use Rattle.shelf.specs.Limits.{mostInType, mostText, typePlace, textPlace, elementPlace}
 use Rattle.element.specs.declared.types.Kind.{Kind}
 use Rattle.element.specs.Types.{served}
 use Rattle.element.specs.Settings.{fieldsFormed}
 use Rattle.shelf.specs.Types.{typeCode, typeCount, textLength, kindAt}
 use Rattle.shelf.specs.Elements.{settingsAt, thresholdsAt, readingAt, nominalAt, spareAt}
-use Rattle.shelf_formed.specs.Formed.{textByteFormed, textFormed, typeFormed, zeros, spareClear, elementFormed}
+use Rattle.shelf_formed.specs.Formed.{textByteFormed, textFormed, typeFormed, spareClear, elementFormed}
 
 third-holds : (a b c : Bool) → (a && b) && c ≡ ((a && true) && b) && c
 third-holds true b c = refl
@@ -66,26 +66,8 @@ judged s j hk ha h he ht hr hn hb =
     rw (← ha, h, hb, hk, he, ht, hr, hn) (sym (and-true (fieldsFormed (kindAt s j) (settingsAt s j) (thresholdsAt s j) (readingAt s j) (nominalAt s j))))
 
 -- four bytes that say 0 are zero
-pub zeros-said : (a b c d : ℕ) → eqb (big (a ∷ b ∷ c ∷ d ∷ [])) 0 ≡ zeros (a ∷ b ∷ c ∷ d ∷ [])
-zeros-said a b c d =
-    by-case (eqb a 0)
-    (λ p.
-    by-case (eqb b 0)
-    (λ q.
-    by-case (eqb c 0)
-    (λ r.
-    by-case (eqb d 0)
-    (λ s. rw (p, q, r, s) (eq-eqb (big (a ∷ b ∷ c ∷ d ∷ [])) 0 (omega (arith, eqb-true a 0 p, eqb-true b 0 q, eqb-true c 0 r, eqb-true d 0 s))))
-    (λ s. rw (p, q, r, s) (said d (λ e. omega (arith, e)) s)))
-    (λ r. rw (p, q, r) (said c (λ e. omega (arith, e)) r)))
-    (λ q. rw (p, q) (said b (λ e. omega (arith, e)) q)))
-    (λ p. rw p (said a (λ e. omega (arith, e)) p))
-  where
-    said : (x : ℕ) → (big (a ∷ b ∷ c ∷ d ∷ []) ≡ 0 → x ≡ 0) → eqb x 0 ≡ false → eqb (big (a ∷ b ∷ c ∷ d ∷ [])) 0 ≡ false
-    said x h p = ne-eqb (big (a ∷ b ∷ c ∷ d ∷ [])) 0 (λ e. eqb-false x 0 p (h e))
-
 pub spare-said : (s : List ℕ) (j : ℕ) {k n : ℕ} → k ≡ elementPlace j → n ≡ big (fourAt s (k + 12)) → eqb n 0 ≡ spareClear s j
 unfolding spareClear spareAt
 spare-said s j p q =
     let k = elementPlace j + 12 in
-    rw (q, p) (zeros-said (getD s k 0) (getD s (k + 1) 0) (getD s (k + 2) 0) (getD s (k + 3) 0))
+    rw (q, p) (zeros-said (fourAt s k))

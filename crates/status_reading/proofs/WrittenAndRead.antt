@@ -12,6 +12,7 @@ use Rattle.bits.specs.Places.{fourAt}
 use Rattle.bits.proofs.Logic.{by-case, pick-yes, pick-no, below-all, fails, four-pass}
 use Rattle.bits.proofs.Halves.{nibble-bits}
 use Rattle.bits.specs.Numbers.{Bytes}
+use Rattle.bits.proofs.Each.{byte-small}
 use Rattle.bits.proofs.Rows.{joined-same}
 use Rattle.element.specs.declared.types.Kind.{Kind}
 use Rattle.element.specs.declared.settings.Settings.{Settings}
@@ -35,8 +36,8 @@ use Rattle.page.specs.Slots.{slotsOf, slotAt, slotPlace}
 use Rattle.page.specs.Header.{headed, header}
 use Rattle.page.proofs.SlotBounds.{slots-bound}
 use Rattle.page.proofs.PagePut.{slot-read}
-use Rattle.page.proofs.SlotsOfFront.{slots-same, header-same, slot-same, first-there, kind-first}
-use Rattle.page.proofs.HeaderBothWays.{byte-small, head-written}
+use Rattle.page.proofs.SlotsOfFront.{slots-same, slot-same, first-there, kind-first}
+use Rattle.page.proofs.SameFront.{told-headed}
 use Rattle.shelf_status.specs.declared.PageBits.{PageBits}
 use Rattle.shelf_status.specs.ShelfStatus.{shownAt, worst, has, pageBits, bitsByte}
 use Rattle.status_page.specs.Page.{slotBytes, slotRow, pageWith, statusPage, shownIn}
@@ -82,11 +83,7 @@ bits-on p b e =
 -- the header passes its tests under the front's generation code
 head-told : (s : List ℕ) → slotsOf s ≤ mostTypes + mostElements → headed (front s) (statusPage s) 0x02 (slotsOf s) ≡ Accepted
 unfolding statusPage pageWith
-head-told s l =
-    let n = slotsOf s in
-    let o = bitsByte (pageBits s) in
-    rw (← (header-same s 0x02 o n))
-    (head-written (slotRow s (shownIn s)) (row-length s (shownIn s)) (front s) 0x02 o n (omega (arith, l)))
+head-told s l = told-headed (slotRow s (shownIn s)) (row-length s (shownIn s)) s 0x02 (bitsByte (pageBits s)) (omega (arith, l))
 
 module _ (s : List ℕ) (hs : Bytes s) (w : wellFormed s ≡ true) where
   f : frontFormed s ≡ true

@@ -4,7 +4,7 @@ use shelf_status::PageBits;
 ghost use mathlib.Core.Path.{_≡_};
 ghost use Prim.Native.Nat.{_≤_};
 ghost use lib.ListN.{length};
-ghost use Rattle.status_record.specs.Entries.{entryPlace, HasEntry, entryPut, entryAt, headPut, bitsAt, entriesIn, bitsFormed};
+ghost use Rattle.status_record.specs.Entries.{entryPlace, HasEntry, entryPut, entryAt, headPut, bitsAt, bitsFormed};
 
 // A record has room for an entry of each slot.
 pub const LENGTH: usize = 4 + element_status::ENTRY * limits::MOST_SLOTS as usize;
@@ -56,13 +56,7 @@ pub fn put_head(fields: &mut [u8], flags: PageBits, n: u16)
     requires { ⌜ 4 ≤ length (now fields) ⌝ }
     ensures { λ _. ⌜ now (fields .exit) ≡ headPut (now (fields .entry)) flags n ⌝ }
 {
-    let head = [
-        flags.noncritical as u8,
-        flags.critical as u8,
-        (n / 256 % 256) as u8,
-        (n % 256) as u8,
-    ];
-    bits::put_four(fields, 0, head);
+    record_head::put(fields, flags.noncritical as u8, flags.critical as u8, n);
 }
 
 pub fn bits_at(fields: &[u8]) -> PageBits
@@ -82,12 +76,4 @@ pub fn bits_formed(fields: &[u8]) -> bool
 {
     let e = bits::four_at(fields, 0);
     (e[0] <= 1) & (e[1] <= 1)
-}
-
-// The number of entries.
-pub fn count(fields: &[u8]) -> u16
-    requires { ⌜ 4 ≤ length (now fields) ⌝ }
-    ensures { λ r. ⌜ r ≡ entriesIn (now (fields .entry)) ⌝ }
-{
-    bits::big16_at(fields, 2)
 }

@@ -4,21 +4,21 @@ use mathlib.Core.Bool.{Bool, true, false}
 use mathlib.Core.List.{List}
 use Prim.Native.Nat.{ℕ, _≤_}
 use lib.ListN.{length}
-use borrow.Author.Tests.{eq-eqb, ne-eqb}
 use Rattle.element.specs.StatusLayout.{fit}
-use Rattle.refusals.specs.declared.Refusal.the-variants.{ShelfNotWellFormed, NotAllowed, WantedList}
+use Rattle.refusals.specs.declared.Refusal.the-variants.{NotAllowed}
+use Rattle.refusals.specs.declared.Refusal.{Refusal}
 use Rattle.refusals.specs.declared.Answer.{Answer}
 use Rattle.refusals.specs.declared.Answer.the-variants.{Accepted, Refused}
 use Rattle.refusals.specs.Outcomes.{placed}
-use Rattle.refusals.proofs.AcceptedTests.{held, held-both}
-use Rattle.shelf_formed.specs.Formed.{HasFront, configurationFormed}
+use Rattle.record_head.specs.Head.{countTested}
+use Rattle.shelf_formed.specs.Formed.{HasFront}
 use Rattle.page.specs.declared.slots.Slot.{Slot}
 use Rattle.page.specs.Slots.{slotAt, slotsOf, slotPlace, slotsPut}
-use Rattle.page.specs.Header.{configurationTested, headPut}
-use Rattle.page.proofs.SlotBounds.{configuration-there}
+use Rattle.page.specs.Header.{headPut}
+use Rattle.page.proofs.SlotBounds.{accepted-there}
 use Rattle.shelf_status.specs.declared.PageBits.{PageBits}
 use Rattle.shelf_status.specs.ShelfStatus.{bitsByte}
-use Rattle.status_record.specs.Entries.{entryAt, entriesIn, bitsAt, bitsFormed}
+use Rattle.status_record.specs.Entries.{entryAt, bitsAt, bitsFormed}
 use Rattle.status_page.specs.Page.{slotRow}
 use Rattle.status_page.proofs.Refusals.{with-placed, with-length}
 use Rattle.status_rewritten.specs.Rewritten.{slotMost, entryFormed, entriesFormed, entriesTested, recordTested, pageAgain}
@@ -29,30 +29,28 @@ unfolding entryFormed
 entry-tested c r i q h = h ∙ rw q
 
 -- the entries of a record, from what the calls say
-module _ (c r : List ℕ) (n : ℕ) {k : ℕ} (x : k ≡ entriesIn r) where
-  pub other-entries : (k ≡ n → ⊥) → Refused WantedList ≡ entriesTested c r n
+module _ (c r : List ℕ) (n : ℕ) {a : Answer} (x : a ≡ countTested r n) where
+  pub other-count : {z : Refusal} → a ≡ Refused z → a ≡ entriesTested c r n
   unfolding entriesTested
-  other-entries t = sym (rw (← x, ne-eqb k n t))
+  other-count t = t ∙ sym (rw (← x, t))
 
-  module _ (u : k ≡ n) {b : Bool} (y : b ≡ bitsFormed r) where
+  module _ (u : a ≡ Accepted) {b : Bool} (y : b ≡ bitsFormed r) where
     pub other-bits : b ≡ false → Refused NotAllowed ≡ entriesTested c r n
     unfolding entriesTested
-    other-bits t = sym (rw (← x, eq-eqb k n u, ← y, t))
+    other-bits t = sym (rw (← x, u, ← y, t))
 
     module _ (v : b ≡ true) {f : Bool} (z : f ≡ entriesFormed c r n) where
       pub other-fields : f ≡ false → Refused NotAllowed ≡ entriesTested c r n
       unfolding entriesTested
-      other-fields t = sym (rw (← x, eq-eqb k n u, ← y, v, ← z, t))
+      other-fields t = sym (rw (← x, u, ← y, v, ← z, t))
 
       pub entries-passed : f ≡ true → Accepted ≡ entriesTested c r n
       unfolding entriesTested
-      entries-passed t = sym (rw (← x, eq-eqb k n u, ← y, v, ← z, t))
+      entries-passed t = sym (rw (← x, u, ← y, v, ← z, t))
 
 pub record-front : (c r : List ℕ) {a : Answer} → a ≡ recordTested c r → a ≡ Accepted → HasFront c
 unfolding recordTested
-record-front c r h u =
-    let e = held-both (configurationTested c) (entriesTested c r (slotsOf c)) (sym h ∙ u) in
-    configuration-there c (held (configurationFormed c) ShelfNotWellFormed Accepted (e .0) .0)
+record-front c r = accepted-there c (entriesTested c r (slotsOf c))
 
 -- the page
 module _ (c r : List ℕ) {n : ℕ} (e : n ≡ slotsOf c) where

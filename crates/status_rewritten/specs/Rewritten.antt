@@ -2,19 +2,19 @@
 use mathlib.Core.Bool.{Bool}
 use mathlib.Core.List.{List}
 use Prim.Native.Nat.{ℕ}
-use lib.Dec.{eqb}
 use Rattle.bits.specs.Choice.{pick, allBelow}
-use Rattle.refusals.specs.declared.Refusal.the-variants.{NotAllowed, WantedList}
+use Rattle.refusals.specs.declared.Refusal.the-variants.{NotAllowed}
 use Rattle.refusals.specs.declared.Answer.{Answer}
 use Rattle.refusals.specs.declared.Answer.the-variants.{Accepted}
 use Rattle.refusals.specs.Outcomes.{unless, next}
+use Rattle.record_head.specs.Head.{countTested}
 use Rattle.element.specs.StatusLayout.{fit}
 use Rattle.element.specs.Status.{mostShown, mostOverall}
 use Rattle.page.specs.declared.slots.Slot.{Slot}
 use Rattle.page.specs.Slots.{slotsOf, slotAt}
 use Rattle.page.specs.Header.{configurationTested}
 use Rattle.status_page.specs.Page.{pageWith}
-use Rattle.status_record.specs.Entries.{entryAt, bitsAt, bitsFormed, entriesIn}
+use Rattle.status_record.specs.Entries.{entryAt, bitsAt, bitsFormed}
 
 -- no field is out of range, or set where the slot shows none
 abbrev pub slotMost : Slot → List ℕ
@@ -29,7 +29,7 @@ entriesFormed c r n = allBelow (entryFormed c r) n
 -- 9: another number of entries than n; 6: a field
 unfoldable pub entriesTested : List ℕ → List ℕ → ℕ → Answer
 entriesTested c r n =
-    unless (eqb (entriesIn r) n) WantedList
+    next (countTested r n)
     (unless (bitsFormed r) NotAllowed
     (unless (entriesFormed c r n) NotAllowed Accepted))
 

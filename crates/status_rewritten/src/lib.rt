@@ -78,9 +78,10 @@ fn test_entries(configuration: &[u8], fields: &[u8; status_record::LENGTH], n: u
     requires { ⌜ n ≡ slotsOf (now configuration) ⌝ }
     ensures { λ r. ⌜ r ≡ entriesTested (now (configuration .entry)) (now (fields .entry)) n ⌝ }
 {
-    if status_record::count(fields) != n {
-        return Answer::Refused(Refusal::WantedList);
-    }
+    let counted = record_head::test_count(fields, n);
+    let Answer::Accepted = counted else {
+        return counted;
+    };
     if !status_record::bits_formed(fields) {
         return Answer::Refused(Refusal::NotAllowed);
     }

@@ -1,17 +1,17 @@
 -- A Threshold In page that was accepted is written again as the same bytes. Assumes nothing.
 use mathlib.Core.Path.{_≡_, sym, ap, ap₂, _∙_}
 use mathlib.Core.Bool.{true}
-use mathlib.Core.List.{List, [], _∷_, _++_, append-assoc}
+use mathlib.Core.List.{List, _++_}
 use Prim.Native.Nat.{ℕ, _+_, _*_, _<_, _≤_}
 use native.Mathlib.Omega.{arith}
 use lib.ListN.{length, getD, drop, take-append-drop, length-drop}
 use lib.Seq.{getD-append-add, take-all}
-use borrow.Author.Tests.{eq-eqb}
-use Rattle.bits.specs.Rows.{oneAt, bytesAt}
+use Rattle.bits.specs.Rows.{bytesAt}
 use Rattle.bits.specs.Numbers.{Bytes}
-use Rattle.bits.proofs.Widths.{big-bytes}
-use Rattle.bits.proofs.Rows.{joined-same, bytes-there, bytes-get}
+use Rattle.bits.proofs.Rows.{bytes-there, bytes-get, bytes-same}
 use Rattle.refusals.specs.declared.Answer.the-variants.{Accepted}
+use Rattle.record_head.specs.Head.{recordHead, countTested}
+use Rattle.record_head.proofs.Counted.{count-back}
 use Rattle.shelf.specs.Limits.{mostTypes, mostElements}
 use Rattle.shelf_formed.specs.Formed.{configurationFormed}
 use Rattle.page.specs.Slots.{slotsOf}
@@ -20,23 +20,18 @@ use Rattle.page.proofs.SlotBounds.{configuration-front, slots-bound}
 use Rattle.page.proofs.HeaderBothWays.{length-tested, header-again}
 use Rattle.threshold_rows.proofs.RowTests.{Fine, rows-fine, fine-rows, fine-by}
 use Rattle.threshold_rows.specs.Rows.{onPage, inRecord, rowPlace, rowAt, rowsTested}
-use Rattle.threshold_record.specs.Read.{recordHead, thresholdRead, thresholdRecord}
-use Rattle.threshold_record.specs.Rewritten.{entriesIn, entriesTested, recordTested, pageAgain}
+use Rattle.threshold_record.specs.Read.{thresholdRead, thresholdRecord}
+use Rattle.threshold_record.specs.Rewritten.{entriesTested, recordTested, pageAgain}
 use Rattle.threshold_record.proofs.Refusals.{read-parts}
 
 -- a record's entries are the page's slots, whatever stands behind them
 module _ (p rest : List ℕ) (n : ℕ) where
   abbrev told : List ℕ
-  told = recordHead n ++ bytesAt p onPage (4 * n) ++ rest
+  told = recordHead 0 0 n ++ bytesAt p onPage (4 * n) ++ rest
 
   get : (j : ℕ) → j < 4 * n → getD told (inRecord + j) 0 ≡ getD p (onPage + j) 0
   get j l =
-      ap (λ (o : List ℕ). getD o (inRecord + j) 0) (append-assoc (recordHead n) (bytesAt p onPage (4 * n)) rest)
-      ∙ getD-append-add (recordHead n) (bytesAt p onPage (4 * n) ++ rest) j 0
-      ∙ bytes-get p onPage (4 * n) j rest l
-
-  count-back : n < 65536 → entriesIn told ≡ n
-  count-back l = big-bytes 2 n (omega arith)
+      getD-append-add (recordHead 0 0 n) (bytesAt p onPage (4 * n) ++ rest) j 0 ∙ bytes-get p onPage (4 * n) j rest l
 
   row-back : (i : ℕ) → i < n → rowAt told inRecord i ≡ rowAt p onPage i
   row-back i l = rw (get (4 * i) (omega arith), at 1 (omega arith), at 2 (omega arith), at 3 (omega arith))
@@ -48,8 +43,7 @@ module _ (p rest : List ℕ) (n : ℕ) where
           ap (λ (m : ℕ). getD told m 0) x ∙ get (4 * i + j) (omega arith) ∙ ap (λ (m : ℕ). getD p m 0) y
 
   slots-back : bytesAt told inRecord (4 * n) ≡ bytesAt p onPage (4 * n)
-  unfolding bytesAt
-  slots-back = joined-same (oneAt told inRecord) (oneAt p onPage) (4 * n) (λ j l. ap (λ (x : ℕ). x ∷ []) (get j l))
+  slots-back = bytes-same told p inRecord onPage (4 * n) get
 
 -- writing again what an accepted reading gave, whatever stands behind it
 module _ (c p rest : List ℕ) (a : thresholdRead c p ≡ Accepted) where
@@ -69,8 +63,8 @@ module _ (c p rest : List ℕ) (a : thresholdRead c p ≡ Accepted) where
   pub tested-again : recordTested c record-told ≡ Accepted
   unfolding recordTested entriesTested thresholdRecord
   tested-again =
-      let n : entriesIn record-told ≡ slotsOf c = count-back p rest (slotsOf c) (omega (arith, few)) in
-      rw (passed .0, eq-eqb (entriesIn record-told) (slotsOf c) n) (fine-rows c record-told inRecord (slotsOf c) entry-fine)
+      let n : countTested record-told (slotsOf c) ≡ Accepted = count-back 0 0 (slotsOf c) (bytesAt p onPage (4 * slotsOf c) ++ rest) (omega (arith, few)) in
+      rw (passed .0, n) (fine-rows c record-told inRecord (slotsOf c) entry-fine)
 
   pub page-again : Bytes c → Bytes p → pageAgain c record-told ≡ p
   unfolding pageAgain thresholdRecord

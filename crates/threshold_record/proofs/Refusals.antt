@@ -2,18 +2,21 @@
 use mathlib.Core.Path.{_≡_, refl, sym, ap, _∙_}
 use mathlib.Core.Bool.{true}
 use mathlib.Core.List.{List, [], _++_}
-use Prim.Native.Nat.{ℕ, _+_, _*_, _/_, _%_, _≤_}
+use Prim.Native.Nat.{ℕ, _+_, _*_, _≤_}
 use native.Mathlib.Omega.{arith}
 use lib.Dec.{eqb}
-use lib.ListN.{length, getD, drop, length-append}
+use lib.ListN.{length, getD, length-append}
 use borrow.Author.Tests.{eq-eqb, ne-eqb, eqb-true}
+use Rattle.bits.specs.Places.{putFour}
 use Rattle.bits.specs.Rows.{bytesAt, putBytes}
-use Rattle.bits.proofs.Rows.{put-next, bytes-next, length-bytes-at}
-use Rattle.refusals.specs.declared.Refusal.the-variants.{ShelfNotWellFormed, NotAllowed, WantedList}
+use Rattle.bits.proofs.Rows.{length-bytes-at}
+use Rattle.bits.proofs.RowsPut.{put-behind, four-behind}
+use Rattle.refusals.specs.declared.Refusal.the-variants.{ShelfNotWellFormed, NotAllowed}
 use Rattle.refusals.specs.declared.Answer.{Answer}
 use Rattle.refusals.specs.declared.Answer.the-variants as answer
 use Rattle.refusals.specs.Outcomes.{unless, next, placed}
 use Rattle.refusals.proofs.AcceptedTests.{held, held-both}
+use Rattle.record_head.specs.Head.{recordHead}
 use Rattle.shelf.specs.Limits.{mostTypes, mostElements}
 use Rattle.shelf_formed.specs.Formed.{HasFront, configurationFormed}
 use Rattle.page.specs.Slots.{slotsOf, slotPlace}
@@ -21,11 +24,11 @@ use Rattle.page.specs.Header.{configurationTested, headed, header}
 use Rattle.page.specs.Header as pages
 use Rattle.page.proofs.HeaderTests.{head-put}
 use Rattle.page.proofs.HeaderBothWays.{length-tested}
-use Rattle.page.proofs.SlotBounds.{configuration-there, slots-bound}
+use Rattle.page.proofs.SlotBounds.{configuration-there, accepted-there, slots-bound}
 use Rattle.page.proofs.PagePut.{length-header}
 use Rattle.threshold_rows.specs.Rows.{onPage, inRecord, rowPlace, rowsTested}
-use Rattle.threshold_record.specs.Read.{recordHead, headPut, bytesTested, thresholdTested, thresholdRead, thresholdRecord}
-use Rattle.threshold_record.specs.Rewritten.{entriesIn, entriesTested, recordTested, pageAgain}
+use Rattle.threshold_record.specs.Read.{bytesTested, thresholdTested, thresholdRead, thresholdRecord}
+use Rattle.threshold_record.specs.Rewritten.{entriesTested, recordTested, pageAgain}
 
 -- the page's own tests
 module _ (c p : List ℕ) (n : ℕ) {b : ℕ} (x : b ≡ getD p 1 0) where
@@ -68,33 +71,19 @@ module _ (c p : List ℕ) (a : thresholdRead c p ≡ answer.Accepted) where
     entries-there fields l = omega (arith, l, slots-bound c (read-front .0))
 
 -- what the reader hands over
-pub record-placed : (c p r : List ℕ) {n : ℕ} {x y : List ℕ} → n ≡ slotsOf c → rowPlace inRecord n ≤ length r → x ≡ headPut r n
+pub record-placed : (c p r : List ℕ) {n : ℕ} {x y : List ℕ} → n ≡ slotsOf c → rowPlace inRecord n ≤ length r → x ≡ putFour r 0 (recordHead 0 0 n)
     → y ≡ putBytes x inRecord (bytesAt p onPage (4 * n)) → y ≡ placed (thresholdRecord c p) r
 unfolding thresholdRecord
 record-placed c p r {n} {x} {y} e l u v =
     let f = bytesAt p onPage (4 * n) in
-    let z = length-bytes-at p onPage (4 * n) in
     v
-    ∙ ap (λ (o : List ℕ). putBytes o inRecord f) (u ∙ put-next [] r 0 0 0 (n / 256 % 256) (n % 256) refl (omega arith))
-    ∙ bytes-next (recordHead n) r f 4 refl (omega (arith, z))
-    ∙ ap (λ (j : ℕ). recordHead n ++ f ++ drop j r) (sym (length-append (recordHead n) f))
-    ∙ ap (λ (m : ℕ). recordHead m ++ bytesAt p onPage (4 * m) ++ drop (length (recordHead m ++ bytesAt p onPage (4 * m))) r) e
-
--- the entries of a record, from what the calls say
-module _ (c r : List ℕ) (n : ℕ) {k : ℕ} (x : k ≡ entriesIn r) where
-  pub other-entries : (k ≡ n → ⊥) → answer.Refused WantedList ≡ entriesTested c r n
-  unfolding entriesTested
-  other-entries t = sym (rw (← x, ne-eqb k n t))
-
-  pub entries-last : {a : Answer} → k ≡ n → a ≡ rowsTested c r inRecord n → a ≡ entriesTested c r n
-  unfolding entriesTested
-  entries-last t v = v ∙ sym (rw (← x, eq-eqb k n t))
+    ∙ ap (λ (o : List ℕ). putBytes o inRecord f) (u ∙ four-behind [] r (recordHead 0 0 n) 0 refl refl (omega arith))
+    ∙ put-behind (recordHead 0 0 n) r f inRecord refl (omega (arith, length-bytes-at p onPage (4 * n)))
+    ∙ ap (λ (m : ℕ). placed (recordHead 0 0 m ++ bytesAt p onPage (4 * m)) r) e
 
 pub record-front : (c r : List ℕ) {a : Answer} → a ≡ recordTested c r → a ≡ answer.Accepted → HasFront c
 unfolding recordTested
-record-front c r h u =
-    let e = held-both (configurationTested c) (entriesTested c r (slotsOf c)) (sym h ∙ u) in
-    configuration-there c (held (configurationFormed c) ShelfNotWellFormed answer.Accepted (e .0) .0)
+record-front c r = accepted-there c (entriesTested c r (slotsOf c))
 
 -- the page again
 module _ (c r : List ℕ) {n : ℕ} (e : n ≡ slotsOf c) where
@@ -116,10 +105,7 @@ module _ (c r : List ℕ) {n : ℕ} (e : n ≡ slotsOf c) where
   again-placed out l u v =
       let f = bytesAt r inRecord (4 * n) in
       let h = header c 0x05 0 n in
-      let z = length-bytes-at r inRecord (4 * n) in
-      let j : onPage + length f ≡ length again = omega (arith, z, length-again) in
       rw (← e)
       (v
       ∙ ap (λ (o : List ℕ). putBytes o onPage f) (u ∙ head-put c out 0x05 0 n (omega arith))
-      ∙ bytes-next h out f onPage (length-header c 0x05 0 n) (omega (arith, z))
-      ∙ ap (λ (o : ℕ). h ++ f ++ drop o out) j)
+      ∙ put-behind h out f onPage (length-header c 0x05 0 n) (omega (arith, length-bytes-at r inRecord (4 * n))))

@@ -15,6 +15,7 @@ use Rattle.element.specs.declared.types.Kind.{Kind}
 use Rattle.element.specs.Types.{had, ordered}
 use Rattle.element.proofs.TypeThresholds.{zeros-had, zeros-ordered}
 use Rattle.refusals.specs.declared.Answer.the-variants.{Accepted}
+use Rattle.record_head.specs.Head.{recordHead}
 use Rattle.shelf.specs.Limits.{mostTypes, mostElements}
 use Rattle.shelf.specs.Elements.{thresholdsAt}
 use Rattle.shelf_formed.specs.Formed.{frontFormed, wellFormed}
@@ -26,11 +27,11 @@ use Rattle.page.specs.Slots.{slotsOf, slotAt}
 use Rattle.page.specs.Header.{headed, header}
 use Rattle.page.proofs.SlotBounds.{slots-bound}
 use Rattle.page.proofs.PagePut.{slot-read, length-header, length-page}
-use Rattle.page.proofs.SlotsOfFront.{slots-same, header-same, slot-same, first-there, kind-first}
-use Rattle.page.proofs.HeaderBothWays.{head-written}
+use Rattle.page.proofs.SlotsOfFront.{slots-same, slot-same, first-there, kind-first}
+use Rattle.page.proofs.SameFront.{told-headed}
 use Rattle.threshold_rows.specs.Rows.{onPage, rowAt, firstSet, rowOffending, rowHad, rowOrdered}
 use Rattle.threshold_page_in.specs.Page.{thresholdRow, thresholdPage}
-use Rattle.threshold_record.specs.Read.{recordHead, thresholdRead, thresholdRecord}
+use Rattle.threshold_record.specs.Read.{thresholdRead, thresholdRecord}
 use Rattle.threshold_page_in.proofs.Refusals.{row-length}
 use Rattle.threshold_record.proofs.Refusals.{parts-read}
 use Rattle.threshold_rows.proofs.RowTests.{Fine, fine-rows}
@@ -53,9 +54,7 @@ module _ (s : List ℕ) (w : wellFormed s ≡ true) where
   -- the header passes its tests under the front's generation code
   head-told : headed (front s) (thresholdPage s) 0x05 (slotsOf s) ≡ Accepted
   unfolding thresholdPage
-  head-told =
-      rw (← (header-same s 0x05 0 (slotsOf s)))
-      (head-written (thresholdRow s) (row-length s) (front s) 0x05 0 (slotsOf s) (omega (arith, few)))
+  head-told = told-headed (thresholdRow s) (row-length s) s 0x05 0 (omega (arith, few))
 
   own : getD (thresholdPage s) 1 0 ≡ 0
   unfolding thresholdPage header
@@ -127,6 +126,6 @@ module _ (s : List ℕ) (w : wellFormed s ≡ true) where
       ∙ take-all (4 * n) g (omega (arith, length-joined (thresholdRow s) 4 (row-length s) n))
 
   -- and hands back what the shelf has stored
-  pub told-record : thresholdRecord (front s) (thresholdPage s) ≡ recordHead (slotsOf s) ++ joined (thresholdRow s) (slotsOf s)
+  pub told-record : thresholdRecord (front s) (thresholdPage s) ≡ recordHead 0 0 (slotsOf s) ++ joined (thresholdRow s) (slotsOf s)
   unfolding thresholdRecord
   told-record = rw (slots-same s, slots-told)

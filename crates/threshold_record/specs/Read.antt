@@ -1,14 +1,13 @@
 -- The Threshold In page read: which pages are refused, and the record of the others. Assumes nothing.
-use mathlib.Core.List.{List, _∷_, _++_}
+use mathlib.Core.List.{List, _++_}
 use Prim.Native.Nat.{ℕ, _*_}
 use lib.Dec.{eqb}
 use lib.ListN.{getD}
-use Rattle.bits.specs.Numbers.{bytes}
-use Rattle.bits.specs.Places.{putFour}
 use Rattle.bits.specs.Rows.{bytesAt}
 use Rattle.refusals.specs.declared.Refusal.the-variants.{NotAllowed}
 use Rattle.refusals.specs.declared.Answer.{Answer}
 use Rattle.refusals.specs.Outcomes.{unless, next}
+use Rattle.record_head.specs.Head.{recordHead}
 use Rattle.page.specs.Slots.{slotsOf}
 use Rattle.page.specs.Header.{configurationTested, headed}
 use Rattle.threshold_rows.specs.Rows.{onPage, rowsTested}
@@ -25,13 +24,6 @@ thresholdTested c p n = next (headed c p 0x05 n) (bytesTested c p n)
 unfoldable pub thresholdRead : List ℕ → List ℕ → Answer
 thresholdRead c p = next (configurationTested c) (thresholdTested c p (slotsOf c))
 
--- two bytes that hold nothing, and the number of entries
-abbrev pub recordHead : ℕ → List ℕ
-recordHead n = 0 ∷ 0 ∷ bytes 2 n
-
-abbrev pub headPut : List ℕ → ℕ → List ℕ
-headPut r n = putFour r 0 (recordHead n)
-
--- the entries are the slots as they are
+-- the head has nothing of its own, and the entries are the slots as they are
 unfoldable pub thresholdRecord : List ℕ → List ℕ → List ℕ
-thresholdRecord c p = recordHead (slotsOf c) ++ bytesAt p onPage (4 * slotsOf c)
+thresholdRecord c p = recordHead 0 0 (slotsOf c) ++ bytesAt p onPage (4 * slotsOf c)

@@ -1,23 +1,17 @@
 -- The Threshold In page written again from a record r. Assumes nothing.
 use mathlib.Core.List.{List, _++_}
 use Prim.Native.Nat.{ℕ, _*_}
-use lib.Dec.{eqb}
-use Rattle.bits.specs.Numbers.{big}
-use Rattle.bits.specs.Places.{twoAt}
 use Rattle.bits.specs.Rows.{bytesAt}
-use Rattle.refusals.specs.declared.Refusal.the-variants.{WantedList}
 use Rattle.refusals.specs.declared.Answer.{Answer}
-use Rattle.refusals.specs.Outcomes.{unless, next}
+use Rattle.refusals.specs.Outcomes.{next}
+use Rattle.record_head.specs.Head.{countTested}
 use Rattle.page.specs.Slots.{slotsOf}
 use Rattle.page.specs.Header.{configurationTested, header}
 use Rattle.threshold_rows.specs.Rows.{inRecord, rowsTested}
 
-abbrev pub entriesIn : List ℕ → ℕ
-entriesIn r = big (twoAt r 2)
-
 -- 9: another number of entries than n; 6, 7, 8: the entries
 unfoldable pub entriesTested : List ℕ → List ℕ → ℕ → Answer
-entriesTested c r n = unless (eqb (entriesIn r) n) WantedList (rowsTested c r inRecord n)
+entriesTested c r n = next (countTested r n) (rowsTested c r inRecord n)
 
 -- 1: no configuration; 9, 6, 7, 8: the entries
 unfoldable pub recordTested : List ℕ → List ℕ → Answer

@@ -9,24 +9,15 @@ use shelf::limits;
 use threshold_page_in::writing;
 ghost use mathlib.Core.Path.{_≡_};
 ghost use Prim.Native.Nat.{_≤_};
-ghost use lib.ListN.{length};
 ghost use Rattle.refusals.specs.declared.Answer.the-variants.{Accepted};
 ghost use Rattle.refusals.specs.Outcomes.{placed, HandsBack};
 ghost use Rattle.shelf_formed.specs.Formed.{HasFront};
 ghost use Rattle.page.specs.Slots.{slotsOf};
 ghost use Rattle.threshold_rows.specs.Rows.{onPage, HasRows};
-ghost use Rattle.threshold_record.specs.Read.{headPut, bytesTested, thresholdTested, thresholdRead, thresholdRecord};
+ghost use Rattle.threshold_record.specs.Read.{bytesTested, thresholdTested, thresholdRead, thresholdRecord};
 
 // A threshold record has room for an entry of each slot.
 pub const LENGTH: usize = 4 + 4 * limits::MOST_SLOTS as usize;
-
-// Two bytes that hold nothing, and the number of entries.
-fn put_head(fields: &mut [u8], n: u16)
-    requires { ⌜ 4 ≤ length (now fields) ⌝ }
-    ensures { λ _. ⌜ now (fields .exit) ≡ headPut (now (fields .entry)) n ⌝ }
-{
-    bits::put_four(fields, 0, [0, 0, (n / 256 % 256) as u8, (n % 256) as u8]);
-}
 
 // The page's own tests.
 fn test_bytes(configuration: &[u8], page: &[u8], n: u16) -> Answer
@@ -68,7 +59,7 @@ fn hand_over(configuration: &[u8], page: &[u8], fields: &mut [u8; LENGTH])
     ensures { λ _. ⌜ now (fields .exit) ≡ placed (thresholdRecord (now (configuration .entry)) (now (page .entry))) (now (fields .entry)) ⌝ }
 {
     let n = slots::count(configuration);
-    put_head(fields, n);
+    record_head::put(fields, 0, 0, n);
     bits::copy(
         page,
         threshold_rows::ON_PAGE as u32,

@@ -4,7 +4,6 @@ use page::header;
 use page::slots;
 use page::testing;
 use refusals::Answer;
-use refusals::Refusal;
 use refusals::Tested;
 use refusals::Written;
 use threshold_page_in::writing;
@@ -22,9 +21,10 @@ fn test_entries(configuration: &[u8], fields: &[u8; reading::LENGTH], n: u16) ->
     requires { ⌜ n ≡ slotsOf (now configuration) ⌝ }
     ensures { λ r. ⌜ r ≡ entriesTested (now (configuration .entry)) (now (fields .entry)) n ⌝ }
 {
-    if bits::big16_at(fields, 2) != n {
-        return Answer::Refused(Refusal::WantedList);
-    }
+    let counted = record_head::test_count(fields, n);
+    let Answer::Accepted = counted else {
+        return counted;
+    };
     threshold_rows::test(configuration, fields, threshold_rows::IN_RECORD, n)
 }
 

@@ -2,9 +2,8 @@
 use native.Mathlib.Omega.{arith}
 use denote.Ref.{now}
 use borrow.Author.Tests.{not-true, not-false}
-use Rattle.shelf_formed.proofs.ElementPut.{length-formed}
-use Rattle.shelf_formed.proofs.ElementPut.{shelf-there}
-use Rattle.build_page.proofs.BestPage.{bytes-of}
+use Rattle.bits.proofs.Each.{bytes-of}
+use Rattle.shelf_formed.proofs.ElementPut.{length-formed, shelf-there}
 use Rattle.build_page.proofs.PromiseKept.{wish-refused, wish-there, none-reaches, page-promised}
 use borrow.Author.Needs.{needs}
 use Rattle.build_page.proofs.build.Statement.{statement}

@@ -1,8 +1,7 @@
 -- `element_status::fields::four_put` meets its contract. Assumes nothing.
-use mathlib.Core.Path.{ap, _∙_}
+use mathlib.Core.Path.{_∙_}
 use lib.ListN.{getD}
 use Rattle.element.specs.StatusLayout.{putOnto}
-use Rattle.element_status.specs.Words.{fourPut}
 use borrow.Author.Needs.{needs}
 use Rattle.element_status.proofs.fields.four_put.Statement.{statement}
 use Rattle.element_status.proofs.fields.four_put.Tie as tie

@@ -4,12 +4,12 @@ use Prim.Native.Nat.{_-_, _≤_}
 use native.Mathlib.Omega.{arith}
 use denote.Ref.{now}
 use borrow.Author.Needs.{needs}
+use Rattle.bits.proofs.RowsPut.{rows-next, rows-length}
 use Rattle.page.specs.Slots.{slotCarried}
 use Rattle.page.proofs.SlotWalk.{run-stands, slot-walked, walk-on}
-use Rattle.status_record.specs.Entries.{entriesPut}
+use Rattle.status_record.specs.Entries.{entryPlace, entriesPut}
 use Rattle.status_reading.specs.Read.{slotShown}
 use Rattle.status_reading.proofs.Loops.{slot-shows}
-use Rattle.status_record.proofs.EntryRows.{entries-next, length-entries}
 use Rattle.status_reading.proofs.reading.put_entries.Statement.{statement}
 use Rattle.status_reading.proofs.reading.put_entries.Tie as tie
 
@@ -35,7 +35,7 @@ slot-shown-requires : tie.Need-slot-shown-requires Inv-loop μ-loop
 slot-shown-requires c κs = let q = c .before .before .before .before .before .before .before .before .before in omega (arith, q .pre .1 .1 .0, c .before .before .before .loop-test .taken)
 
 put-entry-requires : tie.Need-put-entry-requires Inv-loop μ-loop
-put-entry-requires c κs = let q = c .before .before .before .before .before .before .before .before .before .before in let l = c .before .before .before .before .before .loop in omega (arith, q .pre .1 .1 .1, c .before .before .before .before .loop-test .taken, length-entries (slotShown (now (q .args .configuration)) (now (q .args .page))) (now (q .args .fields)) (l .i) (l .inv .2))
+put-entry-requires c κs = let q = c .before .before .before .before .before .before .before .before .before .before in let l = c .before .before .before .before .before .loop in omega (arith, q .pre .1 .1 .1, c .before .before .before .before .loop-test .taken, rows-length entryPlace (slotShown (now (q .args .configuration)) (now (q .args .page))) (now (q .args .fields)) (l .i) (l .inv .2))
 
 add-i : tie.Need-add-i Inv-loop μ-loop
 add-i c = omega (arith, c .before .before .before .before .before .before .before .before .loop .inv .3, c .before .before .before .before .before .before .before .loop-test .taken)
@@ -54,12 +54,12 @@ loop-again c =
     let shown = slot-shows s p (l .i) slot (c .before .before .before .slot-shown .ensures) in (
       omega (arith, c .before .before .before .before .before .before .before .loop-test .taken),
       walk-on s (l .i) r,
-      entries-next (slotShown s p) (now (q .fields)) (l .i) (l .inv .2) shown (c .before .before .put-entry .ensures),
+      rows-next entryPlace (slotShown s p) (now (q .fields)) (l .i) (l .inv .2) refl shown (c .before .before .put-entry .ensures),
       l .inv .3,
     )
 
 same-length : tie.Need-same-length Inv-loop μ-loop
-same-length c = let s = c .before .before .before .before .before .before .args in length-entries (slotShown (now (s .configuration)) (now (s .page))) (now (s .fields)) (c .before .loop .i) (c .before .loop .inv .2)
+same-length c = let s = c .before .before .before .before .before .before .args in rows-length entryPlace (slotShown (now (s .configuration)) (now (s .page))) (now (s .fields)) (c .before .loop .i) (c .before .loop .inv .2)
 
 returns : tie.Need-returns Inv-loop μ-loop
 returns c = let s = c .before .before .before .before .before .before .args in let l = c .before .loop in let e : l .i ≡ s .n = omega arith in l .inv .2 ∙ ap (entriesPut (slotShown (now (s .configuration)) (now (s .page))) (now (s .fields))) e

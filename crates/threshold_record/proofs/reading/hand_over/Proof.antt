@@ -23,7 +23,7 @@ returns c =
     let e = c .before .before .before .before .count .ensures in
     let l = entries-there (now (s .configuration)) (now (s .page)) (c .before .before .before .before .before .before .before .pre) e
     (now (s .fields)) (omega arith) in
-    record-placed (now (s .configuration)) (now (s .page)) (now (s .fields)) e l (c .before .before .put-head .ensures) (c .copy .ensures)
+    record-placed (now (s .configuration)) (now (s .page)) (now (s .fields)) e l (c .before .before .put .ensures) (c .copy .ensures)
 
 pub hand-over-spec : {M : Type 1} → statement M
 hand-over-spec =

@@ -23,7 +23,7 @@ pub bytes-of : (l : List ℕ) → ((i : ℕ) → getD l i 0 < 256) → Bytes l
 bytes-of [] h = tt
 bytes-of (a ∷ l) h = (h 0, bytes-of l (λ i. h (suc i)))
 
-bytes-append : (p q : List ℕ) → Bytes p → Bytes q → Bytes (p ++ q)
+pub bytes-append : (p q : List ℕ) → Bytes p → Bytes q → Bytes (p ++ q)
 bytes-append [] q hp hq = hq
 bytes-append (a ∷ p) q hp hq = (hp .0, bytes-append p q (hp .1) hq)
 

@@ -146,7 +146,7 @@ module _ (k : Kind) (e w : ℕ → List ℕ) (m : ℕ) where
         after-rows selects 4 (under k e w o) c (λ i. one-row k (e i) (w i) (controlOf k o) .0) hc m
         (λ i l. one-first k (e i) (w i) (controlOf k o) (c i) (rows i l) (acts i l))
 
-    same-overall : NotAfter (cost q o) (part k e w m o) (selects o + theirs) (o ++ joined c m)
+    pub same-overall : NotAfter (cost q o) (part k e w m o) (selects o + theirs) (o ++ joined c m)
     same-overall =
         rw (part-selects o)
         (after-append (selects o) (selects o) (sumBelow (λ i. selects (under k e w o i)) m) theirs o o (joined (under k e w o) m) (joined c m) refl

@@ -2,7 +2,8 @@
 use mathlib.Core.Path.{_≡_, refl, sym, ap, ap₂, _∙_}
 use mathlib.Core.Bool.{Bool, true, false}
 use mathlib.Core.List.{List, [], _++_}
-use Prim.Native.Nat.{ℕ, zero, suc, _+_, _*_, _<_, _≤_}
+use mathlib.Core.Logic.{_⊎_, inl, inr}
+use Prim.Native.Nat.{ℕ, zero, suc, _+_, _*_, _-_, _<_, _≤_}
 use native.Mathlib.Nat.{add-zero}
 use native.Mathlib.Numerals.{add-one}
 use native.Mathlib.Omega.{arith}
@@ -26,7 +27,7 @@ use Rattle.element.proofs.StoredSettings.{reserved-unnamed}
 use Rattle.build_element.specs.Wishes.{one}
 use Rattle.build_element.specs.Parts.{selects, under, part}
 use Rattle.build_element.proofs.FirstElement.{Row, one-row}
-use Rattle.build_element.proofs.BestPart.{search-facts, part-selects, part-first}
+use Rattle.build_element.proofs.BestPart.{search-facts, part-selects, same-overall, part-first}
 use Rattle.shelf.specs.Types.{typesOf, typeCount, before, elementsOf}
 use Rattle.shelf.specs.Elements.{settingsAt}
 use Rattle.shelf.specs.SettingsList.{settingsIn}
@@ -41,6 +42,11 @@ use Rattle.control_page.proofs.ValidPage.{valid-formed, valid-slot}
 use Rattle.control_page.proofs.PageActs.{after-length}
 use Rattle.build_page.specs.Page.{typeKind, storedIn, wantedIn, searchIn, overallIn, rowUnder, rowFor}
 use Rattle.build_page.proofs.SlotsByType.{slots-end, overall-row, overall-kind, element-kind, element-row, element-here, own-slot, overall-slot, element-kind-at}
+
+-- what is not after another counts no more, whatever the dictionary says
+no-more : (m n : ℕ) {A : Type 0} → (m < n) ⊎ ((m ≡ n) × A) → m ≤ n
+no-more m n (inl h) = omega arith
+no-more m n (inr h) = omega (arith, h .0)
 
 sum-one : (f : ℕ → ℕ) → sumBelow f 1 ≡ f 0
 sum-one f = omega arith
@@ -115,15 +121,17 @@ module _ (s w q : List ℕ) (hq : Bytes q) (v : valid s q ≡ true) (b : brought
     element-acts i h =
         rw (element-kind-at s f t l i h, own-slot s f t l i h, overall-slot s f t l i h) at (brought s w q b (before s t + i) (element-here s f t l i h))
 
+    overall-theirs : Row k (theirs a)
+    overall-theirs = rw (overall-kind s f t l) at (slot-row a (omega (arith, in-page)))
+
+    elements-theirs : (i : ℕ) → i < m → Row k (theirs (a + (1 + i)))
+    elements-theirs i h = rw (element-kind s f t l i h) at (slot-row (a + (1 + i)) (omega (arith, in-page)))
+
     ours-part : NotAfter (cost (searchIn s w t) (overallIn s w t)) (part k (storedIn s t) (wantedIn s w t) m (overallIn s w t))
         (selects (theirs a) + sumBelow (λ i. selects (theirs (a + (1 + i)))) m) (theirs a ++ joined (λ i. theirs (a + (1 + i))) m)
     unfolding overallIn
     ours-part =
-        part-first k (storedIn s t) (wantedIn s w t) m (theirs a) (λ i. theirs (a + (1 + i)))
-        (rw (overall-kind s f t l) at (slot-row a (omega (arith, in-page))))
-        (λ i. refl)
-        (λ i h. rw (element-kind s f t l i h) at (slot-row (a + (1 + i)) (omega (arith, in-page))))
-        element-acts
+        part-first k (storedIn s t) (wantedIn s w t) m (theirs a) (λ i. theirs (a + (1 + i))) overall-theirs (λ i. refl) elements-theirs element-acts
 
     -- the same, as slots of the two pages
     slots-ours : joined (λ i. ours (a + i)) (1 + m) ≡ part k (storedIn s t) (wantedIn s w t) m (overallIn s w t)
@@ -151,8 +159,18 @@ module _ (s w q : List ℕ) (hq : Bytes q) (v : valid s q ≡ true) (b : brought
         (sumBelow (λ i. selects (theirs (a + i))) (1 + m)) (joined (λ i. theirs (a + i)) (1 + m))
     segment = rw (slots-ours, count-ours, slots-theirs, count-theirs) ours-part
 
+    -- with the overall element that it has, the other page has the SELECTs that the type then needs
+    part-needs : cost (searchIn s w t) (theirs a) ≤ sumBelow (λ i. selects (theirs (a + i))) (1 + m)
+    part-needs =
+        rw count-theirs
+        (no-more _ _
+        (same-overall k (storedIn s t) (wantedIn s w t) m (theirs a) (λ i. theirs (a + (1 + i))) overall-theirs (λ i. refl) elements-theirs element-acts))
+
   row-length : (i : ℕ) → length (ours i) ≡ 4
   row-length i = rowFor-length s w i
+
+  next-start : (t : ℕ) → startOf s (suc t) ≡ startOf s t + (1 + typeCount s t)
+  next-start t = ap (startOf s) (sym (add-one t)) ∙ start-next s t ∙ omega arith
 
   pub upto : (t : ℕ) → t ≤ typesOf s
       → NotAfter (sumBelow (λ i. selects (ours i)) (startOf s t)) (joined ours (startOf s t)) (sumBelow (λ i. selects (theirs i)) (startOf s t)) (joined theirs (startOf s t))
@@ -160,10 +178,15 @@ module _ (s w q : List ℕ) (hq : Bytes q) (v : valid s q ≡ true) (b : brought
   upto (suc t) l =
       let n = startOf s t in
       let m = typeCount s t in
-      let e : startOf s (suc t) ≡ n + (1 + m) = ap (startOf s) (sym (add-one t)) ∙ start-next s t ∙ omega arith in
-      rw (e, joined-split ours n (1 + m), joined-split theirs n (1 + m), sum-split (λ i. selects (ours i)) n (1 + m), sum-split (λ i. selects (theirs i)) n (1 + m))
+      rw (next-start t, joined-split ours n (1 + m), joined-split theirs n (1 + m), sum-split (λ i. selects (ours i)) n (1 + m), sum-split (λ i. selects (theirs i)) n (1 + m))
       (after-append (sumBelow (λ i. selects (ours i)) n) (sumBelow (λ i. selects (theirs i)) n) (sumBelow (λ i. selects (ours (n + i))) (1 + m)) (sumBelow (λ i. selects (theirs (n + i))) (1 + m))
       (joined ours n) (joined theirs n) (joined (λ i. ours (n + i)) (1 + m)) (joined (λ i. theirs (n + i)) (1 + m))
       (length-joined ours 4 row-length n ∙ sym (length-joined theirs 4 (λ i. refl) n))
       (upto t (omega arith))
       (segment t (omega arith)))
+
+  pub needed-upto : (t : ℕ) → t ≤ typesOf s → sumBelow (λ u. cost (searchIn s w u) (theirs (startOf s u))) t ≤ sumBelow (λ i. selects (theirs i)) (startOf s t)
+  needed-upto zero l = omega arith
+  needed-upto (suc t) l =
+      rw (next-start t, sum-split (λ i. selects (theirs i)) (startOf s t) (1 + typeCount s t))
+      (omega (arith, needed-upto t (omega arith), part-needs t (omega arith)))

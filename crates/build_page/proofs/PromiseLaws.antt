@@ -3,17 +3,18 @@ use mathlib.Core.Path.{_≡_, sym, ap, _∙_}
 use mathlib.Core.Bool.{Bool, true, false}
 use mathlib.Core.List.{List, _++_}
 use mathlib.Core.Logic.{inl, inr}
-use Prim.Native.Nat.{ℕ, _+_, _*_, _<_}
+use Prim.Native.Nat.{ℕ, _+_, _*_, _<_, _≤_}
 use native.Mathlib.Omega.{arith}
 use lib.Dec.{eqb, leb}
 use lib.ListN.{length, getD, take, drop}
 use lib.Seq.{take-at}
 use borrow.Author.Tests.{eq-eqb}
-use Rattle.bits.specs.Choice.{pick, allBelow}
+use Rattle.bits.specs.Choice.{pick, allBelow, sumBelow}
 use Rattle.bits.specs.Places.{fourAt}
 use Rattle.bits.specs.Numbers.{Bytes}
 use Rattle.bits.proofs.Logic.{by-case, below-all}
 use Rattle.bits.proofs.Rows.{length-joined}
+use Rattle.build_order.specs.Search.{cost}
 use Rattle.element.specs.Settings.{settingsFormed}
 use Rattle.element_control.proofs.Acting.{settled-formed}
 use Rattle.refusals.specs.declared.Refusal.{Refusal}
@@ -21,12 +22,13 @@ use Rattle.refusals.specs.declared.Refusal.the-variants.{Unreachable, OutputToo
 use Rattle.refusals.specs.declared.Answer.{Answer}
 use Rattle.refusals.specs.declared.Answer.the-variants as answer
 use Rattle.shelf.specs.Limits.{elementPlace}
-use Rattle.shelf.specs.Types.{elementsOf, kindAt}
+use Rattle.shelf.specs.Types.{typesOf, elementsOf, kindAt}
 use Rattle.shelf.specs.Elements.{settingsAt}
 use Rattle.shelf.specs.SettingsList.{storedSettings, settingsIn}
 use Rattle.shelf_formed.specs.Formed.{wellFormed}
 use Rattle.shelf_formed.proofs.FormedShelf.{in-element}
-use Rattle.page.specs.Slots.{slotPlace}
+use Rattle.shelf_formed.proofs.ElementTypes.{front-formed}
+use Rattle.page.specs.Slots.{startOf, slotPlace}
 use Rattle.page.specs.Places.{ownSlot, overallSlot, placesOf}
 use Rattle.control_page.specs.Brought.{settingsAfter, broughtTo}
 use Rattle.control_page.proofs.ValidPage.{valid-formed}
@@ -36,8 +38,9 @@ use Rattle.build_page.specs.declared.built.Built.{Built}
 use Rattle.build_page.specs.declared.built.Built.the-variants.{Page, Refused}
 use Rattle.build_page.specs.Outcome.{builtOf, leftBy}
 use Rattle.build_page.specs.Promise.{mayBe, wishTested, selectsOn, Reaching, Best, OutOfReach, Answered, Passed, Promised}
-use Rattle.build_page.specs.Page.{controlPage, reachable}
-use Rattle.build_page.proofs.FirstSlots.{brought}
+use Rattle.build_page.specs.Page.{searchIn, controlPage, reachable}
+use Rattle.build_page.proofs.SlotsByType.{slots-end}
+use Rattle.build_page.proofs.FirstSlots.{brought, needed-upto}
 use Rattle.build_page.proofs.BestPage.{only-one}
 use Rattle.build_page.proofs.PromiseKept.{no-page, best-page}
 
@@ -63,6 +66,10 @@ module _ (s w q : List ℕ) (r : Reaching s w q) where
   wish-passes =
       let e : eqb (length w) (4 * elementsOf s) ≡ true = eq-eqb _ _ as-long in
       rw (formed, e, all-may-be)
+
+  -- a page that reaches it has the SELECTs that each type needs with the overall element that the page has for it
+  pub selects-needed : sumBelow (λ t. cost (searchIn s w t) (fourAt q (slotPlace (startOf s t)))) (typesOf s) ≤ selectsOn s q
+  selects-needed = rw (← (slots-end s (front-formed s formed))) (needed-upto s w q (r .0) (r .1) (r .2) (typesOf s) (omega arith))
 
 -- applied, it brings the shelf to the wish
 pub applied : (s w p : List ℕ) → Reaching s w p → storedSettings (after s p) ≡ w

@@ -1,42 +1,53 @@
--- Every case of the table holds: antt computes what the definitions give, and it is what document 01 tells. Assumes nothing.
-use mathlib.Core.Path.{_≡_, refl, ap}
+-- Every case of the table holds, and so do those of the errors: antt computes what the definitions give, and it is what document 01 tells.
+-- Assumes nothing.
+use mathlib.Core.Path.{_≡_, refl, sym, ap, subst, _∙_}
 use mathlib.Core.Bool.{Bool, true, false, _&&_}
-use mathlib.Core.List.{List, [], _∷_, map}
-use Prim.Native.Nat.{ℕ}
+use mathlib.Core.List.{List, [], _∷_, _++_}
+use Prim.Native.Nat.{ℕ, _+_, _*_, _<_, _≤_}
 use native.Mathlib.Omega.{arith}
-use lib.Dec.{ltb}
-use lib.ListN.{getD, drop}
+use lib.Dec.{eqb, ltb}
+use lib.ListN.{length, getD}
 use borrow.Author.Tests.{ltb-true}
 use Rattle.bits.specs.Numbers.{Bytes}
 use Rattle.bits.specs.Choice.{firstOf, allBelow}
 use Rattle.bits.specs.Bits.{num}
-use Rattle.bits.proofs.Logic.{and-left, and-right}
+use Rattle.bits.specs.Places.{fourAt}
+use Rattle.bits.specs.Rows.{joined, bytesAt}
+use Rattle.bits.proofs.Each.{each-append}
+use Rattle.bits.proofs.Logic.{and-left, and-right, and-both}
+use Rattle.bits.proofs.Rows.{bytes-whole}
 use Rattle.element.specs.Types.{kindOf, served, layoutOf, readingAllowed, nominalAllowed, had, ordered, verdictOf}
 use Rattle.element.specs.Settings.{settingsOf, settingsBytes, settingsFormed}
 use Rattle.element.specs.Requests.{reservedIn}
 use Rattle.element_control.specs.Control.{controlOf, offending, chosen, settled}
 use Rattle.element.specs.Verdict.{over, under}
 use Rattle.element.specs.Status.{entryBy, shownBy, statusBytes}
+use Rattle.shelf.specs.Limits.{elementPlace}
 use Rattle.shelf.specs.Types.{before, elementsOf, typeOf, kindAt}
 use Rattle.shelf.specs.Elements.{settingsAt, thresholdsAt, readingAt, nominalAt, spareAt}
 use Rattle.shelf_formed.specs.Formed.{headFormed, textFormed, typeFormed, typeEmpty, slotFormed, typesFormed, spareClear, elementFormed, elementsFormed, frontFormed, wellFormed}
-use Rattle.page.specs.Slots.{slotsOf, startOf, slotType, isOverall, slotAt}
-use Rattle.page.specs.Header.{lengthSaid, headed, pageTested, header}
+use Rattle.page.specs.Slots.{slotsOf, startOf, slotType, isOverall, slotAt, slotPlace}
+use Rattle.page.specs.Header.{lengthSaid, framed, lengthTested, generationTested, headed, pageTested, header}
 use Rattle.page.specs.Places.{placesOf}
 use Rattle.shelf_status.specs.ShelfStatus.{verdictAt, shownAt, codeAt, worst, pageBits}
-use Rattle.control_page.specs.Tests.{slotOffending, offence, controlTested, valid}
+use Rattle.control_page.specs.Tests.{slotOffending, offence, bytesTested, controlTested, valid}
 use Rattle.control_page.specs.Brought.{settingsAfter, broughtTo}
 use Rattle.status_page.specs.Page.{slotBytes, pageWith, statusPage, shownIn}
+use Rattle.refusals.specs.declared.Refusal.the-variants.{Unreachable}
 use Rattle.refusals.specs.declared.Answer.the-variants.{Accepted}
-use Rattle.refusals.specs.Outcomes.{accepts}
-use Rattle.refusals.proofs.AcceptedTests.{accepted}
+use Rattle.refusals.specs.Numbers.{numberOf}
+use Rattle.refusals.specs.Outcomes.{next, accepts}
 use Rattle.build_order.specs.Search.{cost, better, best}
 use Rattle.build_element.specs.Wishes.{inReach, alike, requestBytes, own, brings, one}
 use Rattle.build_element.specs.Parts.{tried, tries}
-use Rattle.build_page.specs.Promise.{wishTested}
-use Rattle.build_page.specs.Page.{overallIn, rowUnder, rowFor, selectsFor, controlPage, reachable}
+use Rattle.build_page.specs.declared.built.Built.the-variants.{Refused}
+use Rattle.build_page.specs.Promise.{mayBe, wishTested, selectsOn, Reaching}
+use Rattle.build_page.specs.Page.{searchIn, overallIn, rowUnder, rowFor, selectsFor, controlPage, reachable}
+use Rattle.build_page.proofs.FirstPage.{made-selects}
 use Rattle.build_page.proofs.PromiseKept.{none-reaches, page-promised}
-use Rattle.paper.specs.Table.{Case, shows, judges, tells, builds, misses, limits, none, Holds, AllHold, table}
+use Rattle.build_page.proofs.PromiseLaws.{selects-needed}
+use Rattle.paper.specs.Table.{Case, shows, judges, tells, builds, reaches, refuses, limits, none, typesA, shelfA, OfA, HasStatus, Gets, ReachedBy, RefusedBy, Holds, AllHold, table}
+use Rattle.paper.specs.Errors.{errors}
 
 -- a test that each number is a byte
 abbrev allBytes : List ℕ → Bool
@@ -47,21 +58,52 @@ are-bytes : (l : List ℕ) → allBytes l ≡ true → Bytes l
 are-bytes [] t = tt
 are-bytes (b ∷ bs) t = (ltb-true b 256 (and-left _ _ t), are-bytes bs (and-right (ltb b 256) _ t))
 
--- what antt computes of a case
-given : Case → List ℕ
-given (shows k s r n t b) = statusBytes k (shownBy k (settingsOf k s) r n t)
-given (judges k r n t v) = limits (verdictOf k (settingsOf k none) r n t)
-given (tells s p) = num (wellFormed s) ∷ statusPage s
-given (builds s w p n) = num (accepts (wishTested s w)) ∷ num (allBytes s) ∷ num (allBytes w) ∷ num (allBelow (reachable s w) (elementsOf s)) ∷ selectsFor s w (slotsOf s) ∷ controlPage s w
-given (misses s w) = num (accepts (wishTested s w)) ∷ num (allBelow (reachable s w) (elementsOf s)) ∷ []
+-- A with any identification i, of which each byte stands by itself: so the definitions compute
+abbrev anyA : List ℕ → List ℕ → List ℕ
+anyA i f = shelfA (bytesAt i 0 36) f
+
+-- what is left of the tests of a shelf, of a wish and of a page where the front is well formed, which is tested once and not in each case
+abbrev shelfRest : List ℕ → Bool
+shelfRest s = eqb (length s) (elementPlace (elementsOf s)) && elementsFormed s (elementsOf s)
+
+abbrev wishRest : List ℕ → List ℕ → Bool
+wishRest s w = eqb (length w) (4 * elementsOf s) && allBelow (mayBe s w) (elementsOf s)
+
+abbrev pageRest : List ℕ → List ℕ → Bool
+pageRest s p = accepts (next (headed s p 0x02 (slotsOf s)) (bytesTested s p (slotsOf s)))
+
+-- the page that is made, where o is the overall element of its one type: so that is searched once, and not for each slot
+abbrev pageUnder : List ℕ → List ℕ → List ℕ → List ℕ
+pageUnder s w o = header s 0x02 0 (slotsOf s) ++ joined (λ k. rowUnder s w (slotAt s k) o) (slotsOf s)
+
+-- what antt computes of a case: numbers, and bytes
+given : List ℕ → Case → List (List ℕ)
+given i (shows k s r n t b) = statusBytes k (shownBy k (settingsOf k s) r n t) ∷ []
+given i (judges k r n t v) = limits (verdictOf k (settingsOf k none) r n t) ∷ []
+given i (tells f p) = (num (shelfRest (anyA i f)) ∷ []) ∷ statusPage (anyA i f) ∷ []
+given i (builds f w p n) =
+    let s = anyA i f in
+    (num (shelfRest s) ∷ num (wishRest s w) ∷ num (allBelow (reachable s w) (elementsOf s)) ∷ num (allBytes f) ∷ num (allBytes w) ∷ selectsOn s p ∷ [])
+    ∷ overallIn s w 0
+    ∷ pageUnder s w (fourAt p (slotPlace 0))
+    ∷ []
+given i (reaches f w p n) =
+    let s = anyA i f in
+    (num (shelfRest s) ∷ num (pageRest s p) ∷ num (allBytes p) ∷ selectsOn s p ∷ cost (searchIn s w 0) (fourAt p (slotPlace 0)) ∷ [])
+    ∷ broughtTo s p
+    ∷ []
+given i (refuses f w n) =
+    let s = anyA i f in
+    (num (shelfRest s) ∷ num (wishRest s w) ∷ num (allBelow (reachable s w) (elementsOf s)) ∷ numberOf Unreachable ∷ []) ∷ []
 
 -- and what document 01 tells
-told : Case → List ℕ
-told (shows k s r n t b) = b
-told (judges k r n t v) = v
-told (tells s p) = 1 ∷ p
-told (builds s w p n) = 1 ∷ 1 ∷ 1 ∷ 1 ∷ n ∷ p
-told (misses s w) = 1 ∷ 0 ∷ []
+told : Case → List (List ℕ)
+told (shows k s r n t b) = b ∷ []
+told (judges k r n t v) = v ∷ []
+told (tells f p) = (1 ∷ []) ∷ p ∷ []
+told (builds f w p n) = (1 ∷ 1 ∷ 1 ∷ 1 ∷ 1 ∷ n ∷ []) ∷ fourAt p (slotPlace 0) ∷ p ∷ []
+told (reaches f w p n) = (1 ∷ 1 ∷ 1 ∷ n ∷ n ∷ []) ∷ w ∷ []
+told (refuses f w n) = (1 ∷ 1 ∷ 0 ∷ n ∷ []) ∷ []
 
 yes : (b : Bool) → num b ≡ 1 → b ≡ true
 yes true h = refl
@@ -71,46 +113,132 @@ no : (b : Bool) → num b ≡ 0 → b ≡ false
 no true h = absurd (omega arith)
 no false h = refl
 
--- entry i of two lists that are the same
-entry : {p q : List ℕ} (i : ℕ) → p ≡ q → getD p i 0 ≡ getD q i 0
-entry i e = ap (λ (l : List ℕ). getD l i 0) e
+-- of two that are the same: list k, and number k of the first list
+list : {p q : List (List ℕ)} (k : ℕ) → p ≡ q → getD p k [] ≡ getD q k []
+list k e = ap (λ (l : List (List ℕ)). getD l k []) e
+
+number : {p q : List (List ℕ)} (k : ℕ) → p ≡ q → getD (getD p 0 []) k 0 ≡ getD (getD q 0 []) k 0
+number k e = ap (λ (l : List (List ℕ)). getD (getD l 0 []) k 0) e
 
 -- where the two agree, the case holds
-module _ (s w : List ℕ) where
-  taken : num (accepts (wishTested s w)) ≡ 1 → wishTested s w ≡ Accepted
-  taken h = accepted (wishTested s w) (yes (accepts (wishTested s w)) h)
+module _ (i f : List ℕ) where
+  abbrev s : List ℕ
+  s = anyA i f
 
-  built : (p : List ℕ) (n : ℕ) → given (builds s w p n) ≡ told (builds s w p n) → Holds (builds s w p n)
-  unfolding given told
-  built p n e out =
-      let page : controlPage s w ≡ p = ap (drop 5) e in
-      let count : selectsFor s w (slotsOf s) ≡ n = entry 4 e in
-      page-promised s w out refl (taken (entry 0 e)) (are-bytes s (yes (allBytes s) (entry 1 e))) (are-bytes w (yes (allBytes w) (entry 2 e))) refl refl
-      (yes (allBelow (reachable s w) (elementsOf s)) (entry 3 e))
-      (rw (page, count))
-      (rw page)
+  bytes-A : Bytes (bytesAt i 0 36) → allBytes f ≡ true → Bytes s
+  bytes-A h t =
+      let generation : List ℕ = 0 ∷ 0 ∷ 0 ∷ 7 ∷ [] in
+      each-append (λ b. b < 256) (generation ++ bytesAt i 0 36 ++ typesA) f
+      (each-append (λ b. b < 256) (generation ++ bytesAt i 0 36) typesA (each-append (λ b. b < 256) generation (bytesAt i 0 36) (are-bytes generation refl) h) (are-bytes typesA refl))
+      (are-bytes f t)
 
-  missed : given (misses s w) ≡ told (misses s w) → Holds (misses s w)
-  unfolding given told
-  missed e out = none-reaches s w out refl (taken (entry 0 e)) refl refl (no (allBelow (reachable s w) (elementsOf s)) (entry 1 e))
+  front : frontFormed s ≡ true
+  unfolding frontFormed headFormed typesFormed slotFormed typeFormed typeEmpty textFormed served kindOf elementsOf before bytesAt
+  front = refl
 
-holds : (c : Case) → given c ≡ told c → Holds c
+  formed : shelfRest s ≡ true → wellFormed s ≡ true
+  unfolding wellFormed
+  formed t = and-both (and-both front (and-left _ _ t)) (and-right (eqb (length s) (elementPlace (elementsOf s))) _ t)
+
+  module _ (w : List ℕ) where
+    taken : shelfRest s ≡ true → wishRest s w ≡ true → wishTested s w ≡ Accepted
+    unfolding wishTested
+    taken t u =
+        let long : eqb (length w) (4 * elementsOf s) ≡ true = and-left _ _ u in
+        let may-be : allBelow (mayBe s w) (elementsOf s) ≡ true = and-right (eqb (length w) (4 * elementsOf s)) _ u in
+        rw (formed t, long, may-be)
+
+    made : controlPage s w ≡ pageUnder s w (overallIn s w 0)
+    unfolding controlPage rowFor slotsOf elementsOf slotType startOf before bytesAt
+    made = refl
+
+    gets : (p : List ℕ) (n : ℕ) → Bytes (bytesAt i 0 36) → given i (builds f w p n) ≡ told (builds f w p n) → Gets w p n s
+    unfolding given told
+    gets p n h e out =
+        let overall : overallIn s w 0 ≡ fourAt p (slotPlace 0) = list 1 e in
+        let page : controlPage s w ≡ p = made ∙ ap (pageUnder s w) overall ∙ list 2 e in
+        let count : selectsFor s w (slotsOf s) ≡ n = sym (made-selects s w) ∙ ap (selectsOn s) page ∙ number 5 e in
+        page-promised s w out refl (taken (yes (shelfRest s) (number 0 e)) (yes (wishRest s w) (number 1 e)))
+        (bytes-A h (yes (allBytes f) (number 3 e)))
+        (are-bytes w (yes (allBytes w) (number 4 e)))
+        refl
+        refl
+        (yes (allBelow (reachable s w) (elementsOf s)) (number 2 e))
+        (rw (page, count))
+        (rw page)
+
+    -- A has one type, so a page for it one overall element
+    needed : (q : List ℕ) → Reaching s w q → cost (searchIn s w 0) (fourAt q (slotPlace 0)) ≤ selectsOn s q
+    unfolding startOf before bytesAt
+    needed q r =
+        let h : 0 + cost (searchIn s w 0) (fourAt q (slotPlace 0)) ≤ selectsOn s q = selects-needed s w q r in
+        omega arith
+
+    reached : (p : List ℕ) (n : ℕ) → given i (reaches f w p n) ≡ told (reaches f w p n) → ReachedBy w p n s
+    unfolding given told
+    reached p n e = (
+      (are-bytes p (yes (allBytes p) (number 2 e)), accepted-page, list 1 e),
+      number 3 e,
+      (λ q r o. let c = ap (cost (searchIn s w 0)) o ∙ number 4 e in omega (arith, c, needed q r)),
+    )
+      where
+        accepted-page : valid s p ≡ true
+        accepted-page = unfold valid controlTested pageTested in rw (formed (yes (shelfRest s) (number 0 e))) (yes (pageRest s p) (number 1 e))
+
+    refused : (n : ℕ) → given i (refuses f w n) ≡ told (refuses f w n) → RefusedBy w n s
+    unfolding given told
+    refused n e out = (
+      Refused Unreachable,
+      none-reaches s w out refl (taken (yes (shelfRest s) (number 0 e)) (yes (wishRest s w) (number 1 e))) refl refl (no (allBelow (reachable s w) (elementsOf s)) (number 2 e)),
+      number 3 e,
+    )
+
+-- any 36 bytes are 36 single ones
+of-A : (f : List ℕ) (P : List ℕ → Type 0) → ((i : List ℕ) → Bytes (bytesAt i 0 36) → P (anyA i f)) → OfA f P
+of-A f P h i b l =
+    let e = bytes-whole i 36 l in
+    subst (λ (x : List ℕ). P (shelfA x f)) e (h i (rw e b))
+
+holds : (c : Case) → ((i : List ℕ) → given i c ≡ told c) → Holds c
 unfolding given told
-holds (shows k s r n t b) e = e
-holds (judges k r n t v) e = e
-holds (tells s p) e = (yes (wellFormed s) (entry 0 e), ap (drop 1) e)
-holds (builds s w p n) e = built s w p n e
-holds (misses s w) e = missed s w e
+holds (shows k s r n t b) e = list 0 (e [])
+holds (judges k r n t v) e = list 0 (e [])
+holds (tells f p) e = of-A f (HasStatus p) (λ i h. (formed i f (yes (shelfRest (anyA i f)) (number 0 (e i))), list 1 (e i)))
+holds (builds f w p n) e = of-A f (Gets w p n) (λ i h. gets i f w p n h (e i))
+holds (reaches f w p n) e = of-A f (ReachedBy w p n) (λ i h. reached i f w p n (e i))
+holds (refuses f w n) e = of-A f (RefusedBy w n) (λ i h. refused i f w n (e i))
 
-all-hold : (cs : List Case) → map given cs ≡ map told cs → AllHold cs
-all-hold [] e = tt
-all-hold (c ∷ cs) e = (holds c (let h : given c ≡ told c = cc in h), all-hold cs (let h : map given cs ≡ map told cs = cc in h))
+-- the two agree on each of the cases
+infixr 5 _also_
+data Agree (i : List ℕ) : List Case → Type 0 where
+  end : Agree i []
+  _also_ : {c : Case} {cs : List Case} → given i c ≡ told c → Agree i cs → Agree i (c ∷ cs)
+
+all-hold : (cs : List Case) → ((i : List ℕ) → Agree i cs) → AllHold cs
+all-hold [] a = tt
+all-hold (c ∷ cs) a = (holds c (λ i. first i (a i)), all-hold cs (λ i. rest i (a i)))
+  where
+    first : (i : List ℕ) → Agree i (c ∷ cs) → given i c ≡ told c
+    first i (e also l) = e
+
+    rest : (i : List ℕ) → Agree i (c ∷ cs) → Agree i cs
+    rest i (e also l) = l
+
+computed : (i : List ℕ) → Agree i table × Agree i errors
+unfolding settingsOf settingsBytes controlOf reservedIn offending chosen settled over under verdictOf entryBy shownBy statusBytes kindOf layoutOf
+    readingAllowed nominalAllowed settingsFormed had ordered before elementsOf typeOf kindAt settingsAt thresholdsAt readingAt nominalAt spareAt
+    spareClear elementFormed elementsFormed slotsOf startOf slotType isOverall slotAt header shownAt verdictAt codeAt worst shownIn pageBits
+    slotBytes pageWith statusPage firstOf lengthSaid framed lengthTested generationTested headed placesOf slotOffending offence bytesTested
+    settingsAfter broughtTo inReach alike requestBytes own brings one tried tries cost better best overallIn rowUnder reachable bytesAt given told
+computed i = (
+  refl also refl also refl also refl also refl also refl also refl also refl also refl also refl also refl also refl
+      also refl also refl also refl also refl also refl also refl also refl also refl also refl also refl also refl also refl
+      also end,
+  refl also refl also refl also end,
+)
 
 pub proved : AllHold table
-unfolding settingsOf settingsBytes controlOf reservedIn offending chosen settled over under verdictOf entryBy shownBy statusBytes kindOf served
-    layoutOf readingAllowed nominalAllowed settingsFormed had ordered before elementsOf typeOf kindAt settingsAt thresholdsAt readingAt nominalAt
-    spareAt headFormed textFormed typeFormed typeEmpty slotFormed typesFormed spareClear elementFormed elementsFormed frontFormed wellFormed slotsOf
-    startOf slotType isOverall slotAt header shownAt verdictAt codeAt worst shownIn pageBits slotBytes pageWith statusPage firstOf lengthSaid headed
-    pageTested placesOf slotOffending offence controlTested valid settingsAfter broughtTo inReach alike requestBytes own brings one tried tries cost
-    better best wishTested overallIn rowUnder rowFor controlPage reachable given told
-proved = all-hold table refl
+proved = all-hold table (λ i. computed i .0)
+
+pub errors-proved : AllHold errors
+errors-proved = all-hold errors (λ i. computed i .1)

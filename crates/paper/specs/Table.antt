@@ -2,9 +2,11 @@
 use mathlib.Core.Path.{_≡_}
 use mathlib.Core.Bool.{true}
 use mathlib.Core.List.{List, [], _∷_, _++_}
-use Prim.Native.Nat.{ℕ}
-use lib.ListN.{replicate}
+use Prim.Native.Nat.{ℕ, _≤_}
+use lib.ListN.{length, replicate}
 use Rattle.bits.specs.Bits.{num}
+use Rattle.bits.specs.Numbers.{Bytes}
+use Rattle.bits.specs.Places.{fourAt}
 use Rattle.element.specs.declared.types.Kind.{Kind}
 use Rattle.element.specs.declared.types.Kind.the-variants.{Cooling, Temperature, Voltage, Current}
 use Rattle.element.specs.declared.verdict.Verdict.{Verdict}
@@ -12,23 +14,25 @@ use Rattle.element.specs.Settings.{settingsOf}
 use Rattle.element.specs.Types.{verdictOf}
 use Rattle.element.specs.Status.{shownBy, statusBytes}
 use Rattle.shelf_formed.specs.Formed.{wellFormed}
+use Rattle.page.specs.Slots.{slotPlace}
 use Rattle.status_page.specs.Page.{statusPage}
-use Rattle.refusals.specs.declared.Refusal.the-variants.{Unreachable}
-use Rattle.build_page.specs.declared.built.Built.the-variants.{Refused}
-use Rattle.build_page.specs.Outcome.{builtOf, leftBy}
-use Rattle.build_page.specs.Promise.{Promised}
+use Rattle.build_page.specs.declared.built.Built.{Built}
+use Rattle.build_page.specs.Outcome.{builtNumber, builtOf, leftBy}
+use Rattle.build_page.specs.Promise.{selectsOn, Reaching, Promised}
 
 pub data Case : Type 0 where
   -- an element of the type with these settings, reading, nominal and thresholds shows these bytes
   shows : Kind → List ℕ → ℕ → ℕ → List ℕ → List ℕ → Case
   -- reading, nominal and thresholds of a sensor without settings give this code and these limit bits, in the order of the thresholds
   judges : Kind → ℕ → ℕ → List ℕ → List ℕ → Case
-  -- the shelf is well formed and has this status page
+  -- A with these fans has this status page
   tells : List ℕ → List ℕ → Case
-  -- for these wanted settings the shelf gets this control page, with so many SELECTs, in whatever output buffer holds it
+  -- A with these fans gets this control page for these wanted settings, with so many SELECTs
   builds : List ℕ → List ℕ → List ℕ → ℕ → Case
-  -- these wanted settings are refused as such that no valid page reaches, 10
-  misses : List ℕ → List ℕ → Case
+  -- this page brings it there too, with so many SELECTs, and none with the same overall element has fewer
+  reaches : List ℕ → List ℕ → List ℕ → ℕ → Case
+  -- these wanted settings are refused by this number
+  refuses : List ℕ → List ℕ → ℕ → Case
 
 abbrev pub limits : Verdict → List ℕ
 limits v = v .code ∷ num (v .highcrit) ∷ num (v .highwarn) ∷ num (v .lowwarn) ∷ num (v .lowcrit) ∷ []
@@ -37,13 +41,43 @@ limits v = v .code ∷ num (v .highcrit) ∷ num (v .highwarn) ∷ num (v .lowwa
 abbrev pub none : List ℕ
 none = 0 ∷ 0 ∷ 0 ∷ 0 ∷ []
 
--- what the definitions and the builder's promise say of a case
+-- A's types: one, 03h, with three fans and the text "Fan"
+abbrev pub typesA : List ℕ
+typesA = (1 ∷ 0 ∷ 0 ∷ 0 ∷ []) ++ (0x03 ∷ 3 ∷ 3 ∷ 0 ∷ 0x46 ∷ 0x61 ∷ 0x6e ∷ []) ++ replicate 29 0 ++ replicate 252 0
+
+-- A: generation 7, the identification, the types and the fans
+abbrev pub shelfA : List ℕ → List ℕ → List ℕ
+shelfA identification fans = (0 ∷ 0 ∷ 0 ∷ 7 ∷ []) ++ identification ++ typesA ++ fans
+
+-- it is so of A with these fans, whatever its 36 identification bytes are
+abbrev pub OfA : List ℕ → (List ℕ → Type 0) → Type 0
+OfA fans P = (identification : List ℕ) → Bytes identification → length identification ≡ 36 → P (shelfA identification fans)
+
+-- What the definitions and the builder's promise say of a shelf s. It is well formed, and has the status page p
+abbrev pub HasStatus : List ℕ → List ℕ → Type 0
+HasStatus p s = (wellFormed s ≡ true) × (statusPage s ≡ p)
+
+-- for the wish w it gets the page p with n SELECTs, in whatever output buffer holds it
+abbrev pub Gets : List ℕ → List ℕ → ℕ → List ℕ → Type 0
+Gets w p n s = (out : List ℕ) → Promised s w out (builtOf p n out) (leftBy (builtOf p n out) p out)
+
+-- the page p brings it to the wish w, with n SELECTs, and no page that does has the same first slot and fewer
+abbrev pub ReachedBy : List ℕ → List ℕ → ℕ → List ℕ → Type 0
+ReachedBy w p n s =
+    Reaching s w p × (selectsOn s p ≡ n)
+    × ((q : List ℕ) → Reaching s w q → fourAt q (slotPlace 0) ≡ fourAt p (slotPlace 0) → n ≤ selectsOn s q)
+
+-- the wish w is refused by the number n, and every output buffer is left as it was
+abbrev pub RefusedBy : List ℕ → ℕ → List ℕ → Type 0
+RefusedBy w n s = (out : List ℕ) → (r : Built) × Promised s w out r out × (builtNumber r ≡ n)
+
 abbrev pub Holds : Case → Type 0
 Holds (shows k s r n t b) = statusBytes k (shownBy k (settingsOf k s) r n t) ≡ b
 Holds (judges k r n t v) = limits (verdictOf k (settingsOf k none) r n t) ≡ v
-Holds (tells s p) = (wellFormed s ≡ true) × (statusPage s ≡ p)
-Holds (builds s w p n) = (out : List ℕ) → Promised s w out (builtOf p n out) (leftBy (builtOf p n out) p out)
-Holds (misses s w) = (out : List ℕ) → Promised s w out (Refused Unreachable) out
+Holds (tells f p) = OfA f (HasStatus p)
+Holds (builds f w p n) = OfA f (Gets w p n)
+Holds (reaches f w p n) = OfA f (ReachedBy w p n)
+Holds (refuses f w n) = OfA f (RefusedBy w n)
 
 abbrev pub AllHold : List Case → Type 0
 AllHold [] = Unit {0}
@@ -66,7 +100,7 @@ critical h = h ∷ 0 ∷ 0 ∷ 0 ∷ []
 abbrev warning : ℕ → List ℕ
 warning h = 0 ∷ h ∷ 0 ∷ 0 ∷ []
 
--- a fan that is ON, at this speed
+-- settings of a fan that is ON, at this speed
 abbrev on : ℕ → List ℕ
 on n = 0 ∷ 0 ∷ 0 ∷ n ∷ []
 
@@ -78,32 +112,32 @@ fanAt e r = e ++ none ++ (0 ∷ r ∷ 0 ∷ 0 ∷ []) ++ none
 abbrev fan : ℕ → List ℕ
 fan r = fanAt (on 0x23) r
 
--- A: generation 7, one type, 03h, with three fans and the text "Fan"; its identification is zeros
-abbrev shelfA : List ℕ → List ℕ → List ℕ → List ℕ
-shelfA x y z =
-    (0 ∷ 0 ∷ 0 ∷ 7 ∷ [])
-    ++ replicate 36 0
-    ++ (1 ∷ 0 ∷ 0 ∷ 0 ∷ [])
-    ++ (0x03 ∷ 3 ∷ 3 ∷ 0 ∷ 0x46 ∷ 0x61 ∷ 0x6e ∷ [])
-    ++ replicate 29 0
-    ++ replicate 252 0
-    ++ x
-    ++ y
-    ++ z
-
--- A as it is told
+-- the fans of A as they are told
 abbrev fansA : List ℕ
-fansA = shelfA (fan 120) (fan 120) (fan 120)
+fansA = fan 120 ++ fan 120 ++ fan 120
+
+-- fans with the speeds 3, 4, 5, and the settings of the same with IDENT
+abbrev pub threeSpeeds : List ℕ
+threeSpeeds = fanAt (on 0x23) 120 ++ fanAt (on 0x24) 120 ++ fanAt (on 0x25) 120
+
+abbrev pub identified : List ℕ
+identified = (0x00 ∷ 0x80 ∷ 0x00 ∷ 0x23 ∷ []) ++ (0x00 ∷ 0x80 ∷ 0x00 ∷ 0x24 ∷ []) ++ (0x00 ∷ 0x80 ∷ 0x00 ∷ 0x25 ∷ [])
 
 -- a control page for A: its overall element, and the three individual ones
-abbrev control : List ℕ → List ℕ → List ℕ → List ℕ → List ℕ
+abbrev pub control : List ℕ → List ℕ → List ℕ → List ℕ → List ℕ
 control o x y z = (0x02 ∷ 0x00 ∷ 0x00 ∷ 0x14 ∷ 0x00 ∷ 0x00 ∷ 0x00 ∷ 0x07 ∷ []) ++ o ++ x ++ y ++ z
 
--- elements that ask for SPEED 5, and for nothing
+-- elements of a page: one that asks for SPEED 5, one that keeps a fan ON at its speed, one that asks for IDENT beside that, one without SELECT
 abbrev requests : List ℕ
 requests = 0x80 ∷ 0x00 ∷ 0x00 ∷ 0x25 ∷ []
 
-abbrev silent : List ℕ
+abbrev keeps : List ℕ
+keeps = 0x80 ∷ 0x00 ∷ 0x00 ∷ 0x20 ∷ []
+
+abbrev pub identifies : List ℕ
+identifies = 0x80 ∷ 0x80 ∷ 0x00 ∷ 0x20 ∷ []
+
+abbrev pub silent : List ℕ
 silent = 0x00 ∷ 0x00 ∷ 0x00 ∷ 0x00 ∷ []
 
 abbrev pub table : List Case
@@ -116,7 +150,7 @@ table =
     ++ (0x01 ∷ 0x00 ∷ 0x78 ∷ 0x23 ∷ [])
     ++ (0x01 ∷ 0x00 ∷ 0x78 ∷ 0x23 ∷ []))
     -- a fan ON with reading 0: code 2, page byte 1 is 02h
-    ∷ tells (shelfA (fan 120) (fan 0) (fan 120))
+    ∷ tells (fan 120 ++ fan 0 ++ fan 120)
     ((0x02 ∷ 0x02 ∷ 0x00 ∷ 0x14 ∷ 0x00 ∷ 0x00 ∷ 0x00 ∷ 0x07 ∷ [])
     ++ (0x02 ∷ 0x00 ∷ 0x00 ∷ 0x00 ∷ [])
     ++ (0x01 ∷ 0x00 ∷ 0x78 ∷ 0x23 ∷ [])
@@ -128,19 +162,18 @@ table =
     ∷ builds fansA (on 0x25 ++ on 0x25 ++ on 0x25) (control requests silent silent silent) 1
     ∷ builds fansA (on 0x23 ++ on 0x25 ++ on 0x23) (control silent silent requests silent) 1
     ∷ builds fansA (on 0x25 ++ on 0x25 ++ on 0x23) (control silent requests requests silent) 2
+    -- two SELECTs either way: the overall element asks all for it, and the third fan's own keeps that one as it is
+    ∷ reaches fansA (on 0x25 ++ on 0x25 ++ on 0x23) (control requests silent silent keeps) 2
     -- stored speeds 3, 4, 5, wanted IDENT on all
-    ∷ builds (shelfA (fanAt (on 0x23) 120) (fanAt (on 0x24) 120) (fanAt (on 0x25) 120))
-    ((0x00 ∷ 0x80 ∷ 0x00 ∷ 0x23 ∷ []) ++ (0x00 ∷ 0x80 ∷ 0x00 ∷ 0x24 ∷ []) ++ (0x00 ∷ 0x80 ∷ 0x00 ∷ 0x25 ∷ []))
-    (control (0x80 ∷ 0x80 ∷ 0x00 ∷ 0x20 ∷ []) silent silent silent)
-    1
+    ∷ builds threeSpeeds identified (control identifies silent silent silent) 1
     -- only the first fan has SWAP, wanted cleared
-    ∷ builds (shelfA (fanAt (0x10 ∷ 0x00 ∷ 0x00 ∷ 0x23 ∷ []) 120) (fan 120) (fan 120)) (on 0x23 ++ on 0x23 ++ on 0x23)
+    ∷ builds (fanAt (0x10 ∷ 0x00 ∷ 0x00 ∷ 0x23 ∷ []) 120 ++ fan 120 ++ fan 120) (on 0x23 ++ on 0x23 ++ on 0x23)
     (control silent (0x90 ∷ 0x00 ∷ 0x00 ∷ 0x20 ∷ []) silent silent)
     1
     -- wanted equal to stored: no SELECT
     ∷ builds fansA (on 0x23 ++ on 0x23 ++ on 0x23) (control silent silent silent silent) 0
     -- wanted SWAP 1 over stored 0: refusal 10
-    ∷ misses fansA ((0x10 ∷ 0x00 ∷ 0x00 ∷ 0x23 ∷ []) ++ on 0x23 ++ on 0x23)
+    ∷ refuses fansA ((0x10 ∷ 0x00 ∷ 0x00 ∷ 0x23 ∷ []) ++ on 0x23 ++ on 0x23) 10
     -- a fan ON with reading 0: code 2
     ∷ shows Cooling (on 0x23) 0 0 none (0x02 ∷ 0x00 ∷ 0x00 ∷ 0x23 ∷ [])
     -- temperature byte 64 with high warning 64, and byte 65

@@ -1,6 +1,6 @@
 -- The tests of a configuration page: of one byte, and all of them one after the other. Assumes nothing.
-use mathlib.Core.Path.{_≡_, refl, sym, ap₂, _∙_}
-use mathlib.Core.Bool.{Bool, true, false}
+use mathlib.Core.Path.{_≡_, sym, ap, ap₂, _∙_}
+use mathlib.Core.Bool.{true, false}
 use mathlib.Core.Logic.{_⊎_, inl, inr}
 use mathlib.Core.List.{List}
 use Prim.Native.Nat.{ℕ, _+_, _-_, _/_, _%_, _<_, _≤_}
@@ -20,7 +20,7 @@ use Rattle.refusals.specs.declared.Refusal.{Refusal}
 use Rattle.refusals.specs.declared.Answer.{Answer}
 use Rattle.refusals.specs.declared.Answer.the-variants.{Accepted, Refused}
 use Rattle.refusals.specs.Outcomes.{unless, next}
-use Rattle.refusals.proofs.AcceptedTests.{held, held-both}
+use Rattle.refusals.proofs.AcceptedTests.{held, not-held, held-both}
 use Rattle.refusals.proofs.Stages.{stopped, gone-on}
 use Rattle.page.specs.Header.{lengthSaid, framed, lengthTested}
 use Rattle.page.proofs.HeaderTests.{frame-passed, length-passed, length-needed}
@@ -68,13 +68,10 @@ module _ (p : List ℕ) {n : ℕ} {a : Answer} (h : a ≡ roomTested p n) where
 
   pub no-headers : {r : Refusal} → n ≤ headerPlace (typesOn p) → a ≡ Refused r → a ≡ lengthTested p (neededLength p)
   unfolding lengthTested
-  no-headers {r} l u = go (leb n (length p)) refl (sym u ∙ h)
-    where
-      go : (t : Bool) → leb n (length p) ≡ t → Refused r ≡ unless t PageLength Accepted → a ≡ unless (eqb (length p) (neededLength p)) PageLength Accepted
-      go true e q = let z : _≡_ {A = ℕ} 0 1 = cc in absurd (omega arith)
-      go false e q =
-          let f = leb-false n (length p) e in
-          u ∙ q ∙ sym (pick-no _ _ _ (ne-eqb (length p) (neededLength p) (λ k. omega (arith, headers-there p k))))
+  no-headers l u =
+      let e = not-held (leb n (length p)) PageLength h u in
+      let f = leb-false n (length p) (e .0) in
+      u ∙ ap Refused (e .1) ∙ sym (pick-no _ _ _ (ne-eqb (length p) (neededLength p) (λ k. omega (arith, headers-there p k))))
 
 -- a length that two bytes say
 pub length-small : (p : List ℕ) → ((i : ℕ) → Fits w8 (getD p i 0)) → lengthSaid p ≡ true → Fits w32 (length p)

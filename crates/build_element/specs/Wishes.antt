@@ -11,7 +11,7 @@ use Rattle.element.specs.Settings.{settingsOf, settingsBytes}
 use Rattle.element_control.specs.declared.Control.{Control}
 use Rattle.element_control.specs.Control.{settled}
 
--- four bytes that ask for nothing
+-- the unselected element of four zeros
 abbrev pub silent : List ℕ
 silent = 0 ∷ 0 ∷ 0 ∷ 0 ∷ []
 

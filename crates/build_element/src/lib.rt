@@ -7,9 +7,6 @@ ghost use Rattle.element_control.specs.Control.{controlOf};
 ghost use Rattle.build_element.specs.Wishes.{inReach, alike, requestBytes, requestFor, turning, own, brings, one};
 ghost use Rattle.build_element.specs.Parts.{tried, tries};
 
-// Asks for nothing.
-pub const SILENT: [u8; 4] = [0, 0, 0, 0];
-
 pub fn alike(a: [u8; 4], b: [u8; 4]) -> bool
     ensures { λ r. ⌜ r ≡ alike a b ⌝ }
 {
@@ -82,7 +79,7 @@ pub fn one(kind: Kind, overall: [u8; 4], stored: [u8; 4], wanted: [u8; 4]) -> [u
     ensures { λ r. ⌜ r ≡ one kind (controlOf kind overall) stored wanted ⌝ }
 {
     if brings(kind, overall, stored, wanted) {
-        SILENT
+        Control::UNSELECTED
     } else {
         own(kind, stored, wanted)
     }

@@ -1,6 +1,7 @@
 // The overall element for the elements of one type: the one that leaves the fewest SELECTs to send, the first in the dictionary among equals.
 //
 // Only what the wanted records ask for is tried, and the overall element unselected.
+use element_control::Control;
 use page::slots::Slot;
 use shelf::elements;
 use shelf::settings_list;
@@ -107,12 +108,12 @@ pub fn overall(shelf: &[u8], wanted: &[u8], at: Slot) -> [u8; 4]
     requires { ⌜ HasWishes (now shelf) (now wanted) at ⌝ }
     ensures { λ r. ⌜ r ≡ overallOf (now (shelf .entry)) (now (wanted .entry)) at ⌝ }
 {
-    let selects = cost(shelf, wanted, at, build_element::SILENT);
+    let selects = cost(shelf, wanted, at, Control::UNSELECTED);
     if selects <= 1 {
-        return build_element::SILENT;
+        return Control::UNSELECTED;
     }
     let mut best = Candidate {
-        overall: build_element::SILENT,
+        overall: Control::UNSELECTED,
         selects,
     };
     let mut j = at.first;

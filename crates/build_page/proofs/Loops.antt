@@ -55,14 +55,14 @@ module _ (s w : List ℕ) (j : ℕ) {r : Run} (q : r ≡ runAt s j) where
   reach-at u p h = rw (h, run-kind s j q, u, p)
 
 module _ (f : ℕ → Bool) (n j : ℕ) where
-  pub fails-at : {d : Bool} → f j ≡ d → j < n → d ≡ false → false ≡ allBelow f n
-  fails-at h l t = sym (below-fails f n j l (h ∙ t))
+  pub fails-at : {d : Bool} → f j ≡ d → j < n → d ≡ false → allBelow f n ≡ false
+  fails-at h l t = below-fails f n j l (h ∙ t)
 
   pub passes-at : {d : Bool} → f j ≡ d → allBelow f j ≡ true → d ≡ true → allBelow f (j + 1) ≡ true
   passes-at h a t = below-next f j a (h ∙ t)
 
-  pub passes-all : j ≡ n → allBelow f j ≡ true → true ≡ allBelow f n
-  passes-all e a = sym a ∙ ap (allBelow f) e
+  pub passes-all : j ≡ n → allBelow f j ≡ true → allBelow f n ≡ true
+  passes-all e a = ap (allBelow f) (sym e) ∙ a
 
 -- the four bytes of a slot
 module _ (s w : List ℕ) (at : Slot) (o : List ℕ) where

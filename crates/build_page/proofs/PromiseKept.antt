@@ -17,8 +17,8 @@ use Rattle.refusals.specs.declared.Refusal.{Refusal}
 use Rattle.refusals.specs.declared.Refusal.the-variants.{ShelfNotWellFormed, WantedList, Unreachable}
 use Rattle.refusals.specs.declared.Answer.{Answer}
 use Rattle.refusals.specs.declared.Answer.the-variants as answer
-use Rattle.refusals.specs.Outcomes.{unless}
-use Rattle.refusals.proofs.AcceptedTests.{held, held-both}
+use Rattle.refusals.specs.Outcomes.{next}
+use Rattle.refusals.proofs.AcceptedTests.{held, not-held, held-both}
 use Rattle.shelf.specs.Types.{elementsOf, kindAt}
 use Rattle.shelf.specs.Elements.{settingsAt}
 use Rattle.shelf.specs.SettingsList.{settingsIn}
@@ -28,8 +28,8 @@ use Rattle.page.specs.Header.{shelfTested}
 use Rattle.build_page.specs.declared.built.Built.{Built}
 use Rattle.build_page.specs.declared.built.Built.the-variants.{Refused}
 use Rattle.build_page.specs.Outcome.{passedOn, builtOf, leftBy}
-use Rattle.build_page.specs.Promise.{mayBe, wishTested, Best, OutOfReach, Answered, Passed, Promised}
-use Rattle.build_page.specs.Page.{selectsFor, controlPage, reachable}
+use Rattle.build_page.specs.Promise.{mayBe, numberTested, recordsTested, wishTested, Best, OutOfReach, Answered, Passed, Promised}
+use Rattle.build_page.specs.Page.{selectsFor, controlPage, reachable, reachTested}
 use Rattle.build_page.proofs.FirstPage.{made-selects}
 use Rattle.build_page.proofs.PageReaches.{out-of-reach}
 use Rattle.build_page.proofs.BestPage.{made-best, only-one}
@@ -70,10 +70,12 @@ module _ (s w : List ℕ) (taken : wishTested s w ≡ answer.Accepted) where
   all-passed : (wellFormed s ≡ true) × (length w ≡ 4 * elementsOf s) × (allBelow (mayBe s w) (elementsOf s) ≡ true)
   unfolding wishTested
   all-passed =
-      let b = held-both (shelfTested s) (unless (eqb (length w) (4 * elementsOf s)) WantedList (unless (allBelow (mayBe s w) (elementsOf s)) WantedList answer.Accepted)) taken in
-      let f = held (wellFormed s) ShelfNotWellFormed answer.Accepted (b .0) in
-      let n = held (eqb (length w) (4 * elementsOf s)) WantedList (unless (allBelow (mayBe s w) (elementsOf s)) WantedList answer.Accepted) (b .1) in
-      (f .0, eqb-true _ _ (n .0), held (allBelow (mayBe s w) (elementsOf s)) WantedList answer.Accepted (n .1) .0)
+      let n = elementsOf s in
+      let b = held-both (shelfTested s) (next (numberTested w n) (recordsTested s w n)) taken in
+      let f = held (wellFormed s) ShelfNotWellFormed answer.Accepted (b .0) .0 in
+      let d = held-both (numberTested w n) (recordsTested s w n) (b .1) in
+      let l = held (eqb (length w) (4 * n)) WantedList answer.Accepted (d .0) .0 in
+      (f, eqb-true _ _ l, held (allBelow (mayBe s w) n) WantedList answer.Accepted (d .1) .0)
 
   swap-stored : (j : ℕ) → reachable s w j ≡ true → settingsOf (kindAt s j) (settingsIn w j) .swap ≡ true → settingsOf (kindAt s j) (settingsAt s j) .swap ≡ true
   unfolding reachable inReach
@@ -84,6 +86,9 @@ module _ (s w : List ℕ) (taken : wishTested s w ≡ answer.Accepted) where
       let z = all-passed in
       made-best s w (z .0) hs hw (z .1)
       (λ j l. (below-at (mayBe s w) (elementsOf s) (z .2) j l, swap-stored j (below-at (reachable s w) (elementsOf s) t j l)))
+
+pub reach-held : (s w : List ℕ) (n : ℕ) {d : Answer} → d ≡ reachTested s w n → d ≡ answer.Accepted → allBelow (reachable s w) n ≡ true
+reach-held s w n h u = held (allBelow (reachable s w) n) Unreachable answer.Accepted (sym h ∙ u) .0
 
 module _ (s w out : List ℕ) where
   pub wish-refused : {a : Answer} {x : Refusal} {r : Built} → a ≡ wishTested s w → a ≡ answer.Refused x → r ≡ passedOn a → Promised s w out r out
@@ -104,6 +109,13 @@ module _ (s w out : List ℕ) where
 
     pub none-reaches : {n : ℕ} {d : Bool} → n ≡ elementsOf s → d ≡ allBelow (reachable s w) n → d ≡ false → Promised s w out (Refused Unreachable) out
     none-reaches e h t = rw taken (inl (no-page s w (reach-is e h t), refl, refl))
+
+    pub reach-refused : {n : ℕ} {d : Answer} {x : Refusal} {r : Built} → n ≡ elementsOf s → d ≡ reachTested s w n → d ≡ answer.Refused x → r ≡ passedOn d
+        → Promised s w out r out
+    reach-refused {n} {d} {x} {r} e h t q =
+        let z = not-held (allBelow (reachable s w) n) Unreachable h t in
+        let y : r ≡ Refused Unreachable = q ∙ ap passedOn (t ∙ ap answer.Refused (z .1)) in
+        rw y (none-reaches e refl (z .0))
 
     pub page-promised : Bytes s → Bytes w → {n : ℕ} {d : Bool} {r : Built} {y : List ℕ} → n ≡ elementsOf s → d ≡ allBelow (reachable s w) n → d ≡ true
         → r ≡ builtOf (controlPage s w) (selectsFor s w (slotsOf s)) out → y ≡ leftBy r (controlPage s w) out → Promised s w out r y

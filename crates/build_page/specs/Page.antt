@@ -2,7 +2,7 @@
 use mathlib.Core.Bool.{Bool}
 use mathlib.Core.List.{List, _++_}
 use Prim.Native.Nat.{ℕ}
-use Rattle.bits.specs.Choice.{pick, sumBelow}
+use Rattle.bits.specs.Choice.{pick, allBelow, sumBelow}
 use Rattle.bits.specs.Rows.{joined}
 use Rattle.element.specs.declared.types.Kind.{Kind}
 use Rattle.element.specs.Types.{kindOf}
@@ -10,6 +10,10 @@ use Rattle.element_control.specs.Control.{controlOf}
 use Rattle.build_order.specs.Search.{Search, best}
 use Rattle.build_element.specs.Wishes.{inReach, one}
 use Rattle.build_element.specs.Parts.{selects, overallSearch}
+use Rattle.refusals.specs.declared.Refusal.the-variants.{Unreachable}
+use Rattle.refusals.specs.declared.Answer.{Answer}
+use Rattle.refusals.specs.declared.Answer.the-variants.{Accepted}
+use Rattle.refusals.specs.Outcomes.{unless}
 use Rattle.shelf.specs.Types.{typeCode, typeCount, before, kindAt}
 use Rattle.shelf.specs.Elements.{settingsAt}
 use Rattle.shelf.specs.SettingsList.{settingsIn}
@@ -52,3 +56,7 @@ controlPage s w = header s 0x02 0 (slotsOf s) ++ joined (rowFor s w) (slotsOf s)
 -- element j can be brought to what is wanted of it
 unfoldable pub reachable : List ℕ → List ℕ → ℕ → Bool
 reachable s w j = inReach (kindAt s j) (settingsAt s j) (settingsIn w j)
+
+-- 10: one of the first n that can't
+abbrev pub reachTested : List ℕ → List ℕ → ℕ → Answer
+reachTested s w n = unless (allBelow (reachable s w) n) Unreachable Accepted

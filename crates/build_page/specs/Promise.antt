@@ -30,12 +30,17 @@ use Rattle.build_page.specs.Outcome.{builtOf, leftBy}
 abbrev pub mayBe : List ℕ → List ℕ → ℕ → Bool
 mayBe s w j = settingsFormed (kindAt s j) (settingsIn w j)
 
--- 1: the shelf record is not well formed; 9: another number of records than elements, or one that its type may not have
+-- 9: another number of records than n elements
+abbrev pub numberTested : List ℕ → ℕ → Answer
+numberTested w n = unless (eqb (length w) (4 * n)) WantedList answer.Accepted
+
+-- 9: one of the first n records that its type may not have
+abbrev pub recordsTested : List ℕ → List ℕ → ℕ → Answer
+recordsTested s w n = unless (allBelow (mayBe s w) n) WantedList answer.Accepted
+
+-- 1: the shelf record is not well formed; 9: the number of records, then each of them
 unfoldable pub wishTested : List ℕ → List ℕ → Answer
-wishTested s w =
-    next (shelfTested s)
-    (unless (eqb (length w) (4 * elementsOf s)) WantedList
-    (unless (allBelow (mayBe s w) (elementsOf s)) WantedList answer.Accepted))
+wishTested s w = next (shelfTested s) (next (numberTested w (elementsOf s)) (recordsTested s w (elementsOf s)))
 
 -- the SELECT bits of a control page for s, overall ones counted
 abbrev pub selectsOn : List ℕ → List ℕ → ℕ

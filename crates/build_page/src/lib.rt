@@ -5,7 +5,6 @@ pub mod writing;
 
 use built::Built;
 use refusals::Answer;
-use refusals::Refusal;
 use shelf::types;
 ghost use Rattle.build_page.specs.Promise.{Promised};
 
@@ -16,8 +15,9 @@ pub fn build(shelf: &[u8], wanted: &[u8], out: &mut [u8]) -> Built
     let Answer::Accepted = tested else {
         return Built::refused(tested);
     };
-    if !testing::reach(shelf, wanted, types::all_elements(shelf)) {
-        return Built::Refused(Refusal::Unreachable);
-    }
+    let reach = testing::test_reach(shelf, wanted, types::all_elements(shelf));
+    let Answer::Accepted = reach else {
+        return Built::refused(reach);
+    };
     writing::write(shelf, wanted, out)
 }

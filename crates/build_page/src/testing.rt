@@ -9,15 +9,24 @@ ghost use mathlib.Core.Path.{_≡_};
 ghost use Prim.Native.Nat.{_*_, _≤_};
 ghost use lib.ListN.{length};
 ghost use Rattle.shelf.specs.Limits.{elementPlace};
-ghost use Rattle.bits.specs.Choice.{allBelow};
-ghost use Rattle.build_page.specs.Promise.{mayBe, wishTested};
-ghost use Rattle.build_page.specs.Page.{reachable};
+ghost use Rattle.build_page.specs.Promise.{numberTested, recordsTested, wishTested};
+ghost use Rattle.build_page.specs.Page.{reachTested};
+
+// The number of records, for n elements.
+fn test_number(wanted: &[u8], n: u16) -> Answer
+    ensures { λ r. ⌜ r ≡ numberTested (now (wanted .entry)) n ⌝ }
+{
+    if wanted.len() != 4 * n as usize {
+        return Answer::Refused(Refusal::WantedList);
+    }
+    Answer::Accepted
+}
 
 // Whether each of the first n records is one that its type may have.
-fn may_be(shelf: &[u8], wanted: &[u8], n: u16) -> bool
+fn test_records(shelf: &[u8], wanted: &[u8], n: u16) -> Answer
     requires { ⌜ elementPlace n ≤ length (now shelf) ⌝ }
     requires { ⌜ 4 * n ≤ length (now wanted) ⌝ }
-    ensures { λ r. ⌜ r ≡ allBelow (mayBe (now (shelf .entry)) (now (wanted .entry))) n ⌝ }
+    ensures { λ r. ⌜ r ≡ recordsTested (now (shelf .entry)) (now (wanted .entry)) n ⌝ }
 {
     let mut run = types::first_run(shelf);
     let mut j: u16 = 0;
@@ -26,18 +35,18 @@ fn may_be(shelf: &[u8], wanted: &[u8], n: u16) -> bool
         run = here;
         let kind = here.kind;
         if !settings::are_formed(kind, settings_list::settings_in(wanted, j)) {
-            return false;
+            return Answer::Refused(Refusal::WantedList);
         }
         j += 1;
     }
-    true
+    Answer::Accepted
 }
 
 // Whether each of the first n elements can be brought to its record.
-pub fn reach(shelf: &[u8], wanted: &[u8], n: u16) -> bool
+pub fn test_reach(shelf: &[u8], wanted: &[u8], n: u16) -> Answer
     requires { ⌜ elementPlace n ≤ length (now shelf) ⌝ }
     requires { ⌜ 4 * n ≤ length (now wanted) ⌝ }
-    ensures { λ r. ⌜ r ≡ allBelow (reachable (now (shelf .entry)) (now (wanted .entry))) n ⌝ }
+    ensures { λ r. ⌜ r ≡ reachTested (now (shelf .entry)) (now (wanted .entry)) n ⌝ }
 {
     let mut run = types::first_run(shelf);
     let mut j: u16 = 0;
@@ -50,11 +59,11 @@ pub fn reach(shelf: &[u8], wanted: &[u8], n: u16) -> bool
             elements::settings_at(shelf, j),
             settings_list::settings_in(wanted, j),
         ) {
-            return false;
+            return Answer::Refused(Refusal::Unreachable);
         }
         j += 1;
     }
-    true
+    Answer::Accepted
 }
 
 pub fn wish(shelf: &[u8], wanted: &[u8]) -> Answer
@@ -65,11 +74,9 @@ pub fn wish(shelf: &[u8], wanted: &[u8]) -> Answer
         return tested;
     };
     let n = types::all_elements(shelf);
-    if wanted.len() != 4 * n as usize {
-        return Answer::Refused(Refusal::WantedList);
-    }
-    if !may_be(shelf, wanted, n) {
-        return Answer::Refused(Refusal::WantedList);
-    }
-    tested
+    let number = test_number(wanted, n);
+    let Answer::Accepted = number else {
+        return number;
+    };
+    test_records(shelf, wanted, n)
 }

@@ -4,7 +4,7 @@ use control_page::testing;
 use page::header;
 use page::slots;
 use page::slots::Slot;
-use refusals::Refusal;
+use refusals::Written;
 use shelf::elements;
 use shelf::settings_list;
 ghost use mathlib.Core.Path.{_≡_};
@@ -87,10 +87,10 @@ pub fn write(shelf: &[u8], wanted: &[u8], out: &mut [u8]) -> Built
     ensures { λ r. ⌜ now (out .exit) ≡ leftBy r (controlPage (now (shelf .entry)) (now (wanted .entry))) (now (out .entry)) ⌝ }
 {
     let n = slots::count(shelf);
-    let bytes = slots::slot_place(n);
-    if out.len() < bytes as usize {
-        return Built::Refused(Refusal::OutputTooShort);
-    }
+    let fit = Written::fit(slots::slot_place(n), out.len());
+    let Written::Bytes(bytes) = fit else {
+        return Built::refused(fit.answer());
+    };
     header::put(shelf, out, testing::CODE, 0, n);
     let selects = put_slots(shelf, wanted, out, n);
     Built::Page { bytes, selects }

@@ -1,5 +1,5 @@
 -- The tests of a configuration page: of one byte, and all of them one after the other. Assumes nothing.
-use mathlib.Core.Path.{_≡_, sym, ap₂, _∙_}
+use mathlib.Core.Path.{_≡_, sym, ap, ap₂, _∙_}
 use mathlib.Core.Bool.{true, false}
 use mathlib.Core.Logic.{_⊎_, inl, inr}
 use mathlib.Core.List.{List}
@@ -7,7 +7,7 @@ use Prim.Native.Nat.{ℕ, _+_, _-_, _/_, _%_, _<_, _≤_}
 use native.Mathlib.Omega.{arith}
 use lib.Dec.{eqb, leb}
 use lib.ListN.{length, getD}
-use borrow.Author.Tests.{lt-ltb, le-ltb, le-leb, leb-false, eq-eqb, ne-eqb, eqb-true}
+use borrow.Author.Tests.{lt-ltb, le-ltb, le-leb, leb-true, leb-false, eq-eqb, ne-eqb, eqb-true}
 use mir.Val.{Fits}
 use mir.Syntax.{w8, w32}
 use Rattle.bits.specs.Choice.{firstBelow}
@@ -20,13 +20,13 @@ use Rattle.refusals.specs.declared.Refusal.{Refusal}
 use Rattle.refusals.specs.declared.Answer.{Answer}
 use Rattle.refusals.specs.declared.Answer.the-variants.{Accepted, Refused}
 use Rattle.refusals.specs.Outcomes.{unless, next}
-use Rattle.refusals.proofs.AcceptedTests.{held, held-both}
+use Rattle.refusals.proofs.AcceptedTests.{held, not-held, held-both}
 use Rattle.refusals.proofs.Stages.{stopped, gone-on}
 use Rattle.page.specs.Header.{lengthSaid, framed, lengthTested}
 use Rattle.page.proofs.HeaderTests.{frame-passed, length-passed, length-needed}
 use Rattle.page.proofs.HeaderBothWays.{frame-parts}
 use Rattle.configuration_page.specs.Page.{headerPlace}
-use Rattle.configuration_page.specs.Read.{typesOn, headerByte, neededLength, fixedOffends, headerOffends, textOffends, offends, firstOffence, bytesTested, configurationRead}
+use Rattle.configuration_page.specs.Read.{typesOn, headerByte, neededLength, fixedOffends, headerOffends, textOffends, offends, firstOffence, roomTested, bytesTested, configurationRead}
 
 pub none-offends : (k b : ℕ) → ((k ≡ 1) ⊎ (k ≡ 9) → ⊥) → (k ≡ 8 → ⊥) → (k ≡ 10 → ⊥) → (k ≡ 11 → ⊥) → false ≡ fixedOffends k b
 unfolding fixedOffends
@@ -62,13 +62,16 @@ unfolding neededLength
 headers-there p e = omega (arith, start-behind (headerPlace (typesOn p)) (headerByte p 3) (typesOn p))
 
 -- a page without all its headers is shorter than they need
-headers-needed : (p : List ℕ) → leb (headerPlace (typesOn p)) (length p) ≡ false → eqb (length p) (neededLength p) ≡ false
-headers-needed p e = let l = leb-false (headerPlace (typesOn p)) (length p) e in ne-eqb (length p) (neededLength p) (λ q. omega (arith, headers-there p q))
+module _ (p : List ℕ) {n : ℕ} {a : Answer} (h : a ≡ roomTested p n) where
+  pub room-there : a ≡ Accepted → n ≤ length p
+  room-there u = leb-true n (length p) (held (leb n (length p)) PageLength Accepted (sym h ∙ u) .0)
 
--- the length that the type list needs
-pub no-headers : (p : List ℕ) → leb (headerPlace (typesOn p)) (length p) ≡ false → Refused PageLength ≡ lengthTested p (neededLength p)
-unfolding lengthTested
-no-headers p e = rw (headers-needed p e)
+  pub no-headers : {r : Refusal} → n ≤ headerPlace (typesOn p) → a ≡ Refused r → a ≡ lengthTested p (neededLength p)
+  unfolding lengthTested
+  no-headers l u =
+      let e = not-held (leb n (length p)) PageLength h u in
+      let f = leb-false n (length p) (e .0) in
+      u ∙ ap Refused (e .1) ∙ sym (pick-no _ _ _ (ne-eqb (length p) (neededLength p) (λ k. omega (arith, headers-there p k))))
 
 -- a length that two bytes say
 pub length-small : (p : List ℕ) → ((i : ℕ) → Fits w8 (getD p i 0)) → lengthSaid p ≡ true → Fits w32 (length p)

@@ -8,7 +8,7 @@ use Rattle.bits.specs.Bits.{printable}
 use Rattle.bits.specs.Choice.{pick, firstBelow, sumBelow}
 use Rattle.bits.specs.Rows.{rowStart}
 use Rattle.element.specs.Types.{served}
-use Rattle.refusals.specs.declared.Refusal.the-variants.{NotAllowed}
+use Rattle.refusals.specs.declared.Refusal.the-variants.{PageLength, NotAllowed}
 use Rattle.refusals.specs.declared.Answer.{Answer}
 use Rattle.refusals.specs.declared.Answer.the-variants.{Accepted}
 use Rattle.refusals.specs.Outcomes.{unless, next}
@@ -69,6 +69,10 @@ offenceBelow p n = firstBelow (offends p) n
 -- the first offending byte in page order; the length of the page if there is none
 unfoldable pub firstOffence : List ℕ → ℕ
 firstOffence p = firstBelow (offends p) (length p)
+
+-- 4: fewer than n bytes
+abbrev pub roomTested : List ℕ → ℕ → Answer
+roomTested p n = unless (leb n (length p)) PageLength Accepted
 
 -- 6: a byte offends
 unfoldable pub bytesTested : List ℕ → Answer

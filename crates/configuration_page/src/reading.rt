@@ -12,7 +12,6 @@ ghost use mathlib.Core.Path.{_≡_};
 ghost use mathlib.Core.Bool.{true};
 ghost use mathlib.Core.List.{_++_};
 ghost use Prim.Native.Nat.{_+_, _-_, _<_, _≤_};
-ghost use lib.Dec.{leb};
 ghost use lib.ListN.{length, replicate};
 ghost use Rattle.bits.specs.Choice.{firstBelow};
 ghost use Rattle.bits.specs.Places.{fourAt};
@@ -22,7 +21,7 @@ ghost use Rattle.refusals.specs.Outcomes.{placed, HandsBack};
 ghost use Rattle.shelf.specs.Limits.{mostTypes, mostText, typePlace, elementPlace, HasTypes};
 ghost use Rattle.page.specs.Header.{lengthSaid, lengthTested};
 ghost use Rattle.configuration_page.specs.Page.{headerPlace};
-ghost use Rattle.configuration_page.specs.Read.{typesOn, neededLength, textOffends, offends, offenceBelow, bytesTested, configurationRead};
+ghost use Rattle.configuration_page.specs.Read.{typesOn, neededLength, textOffends, offends, offenceBelow, roomTested, bytesTested, configurationRead};
 ghost use Rattle.configuration_page.specs.Configuration.{toldByte, headTold, toldStart, typeTold, configurationOf};
 
 // Where a page has the number of types.
@@ -41,16 +40,6 @@ fn header_on(page: &[u8], t: u16) -> [u8; 4]
     ensures { λ r. ⌜ r ≡ fourAt (now (page .entry)) (headerPlace t) ⌝ }
 {
     bits::four_at(page, writing::header_place(t))
-}
-
-// The headers of all its types stand on the page.
-fn has_headers(page: &[u8]) -> bool
-    ensures { λ r. ⌜ r ≡ leb (headerPlace (typesOn (now (page .entry)))) (length (now (page .entry))) ⌝ }
-{
-    if page.len() < writing::FIRST_HEADER as usize {
-        return false;
-    }
-    writing::header_place(types_on(page)) as usize <= page.len()
 }
 
 // The length that the type list needs: the texts stand behind all headers.
@@ -162,13 +151,28 @@ fn first_offence(page: &[u8], n: u32) -> u32
     texts_offence(page, end, n)
 }
 
+// The bytes before the headers, or those up to the end of them.
+fn test_room(page: &[u8], n: u32) -> Answer
+    ensures { λ r. ⌜ r ≡ roomTested (now (page .entry)) n ⌝ }
+{
+    if page.len() < n as usize {
+        return Answer::Refused(Refusal::PageLength);
+    }
+    Answer::Accepted
+}
+
 // The length that the type list needs, which is known once all headers are there.
 fn test_length(page: &[u8]) -> Answer
     ensures { λ r. ⌜ r ≡ lengthTested (now (page .entry)) (neededLength (now (page .entry))) ⌝ }
 {
-    if !has_headers(page) {
-        return Answer::Refused(Refusal::PageLength);
-    }
+    let fixed = test_room(page, writing::FIRST_HEADER);
+    let Answer::Accepted = fixed else {
+        return fixed;
+    };
+    let headers = test_room(page, writing::header_place(types_on(page)));
+    let Answer::Accepted = headers else {
+        return headers;
+    };
     header::test_length(page, needed_length(page))
 }
 

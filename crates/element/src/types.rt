@@ -40,14 +40,11 @@ impl Kind {
     pub fn of(code: u8) -> Kind
         ensures { λ r. ⌜ r ≡ kindOf code ⌝ }
     {
-        if code == COOLING {
-            Kind::Cooling
-        } else if code == TEMPERATURE {
-            Kind::Temperature
-        } else if code == VOLTAGE {
-            Kind::Voltage
-        } else {
-            Kind::Current
+        match code {
+            COOLING => Kind::Cooling,
+            TEMPERATURE => Kind::Temperature,
+            VOLTAGE => Kind::Voltage,
+            _ => Kind::Current,
         }
     }
 

@@ -19,7 +19,7 @@ selected e = bit 7 (getD e 0 0)
 abbrev pub nothing : Settings
 nothing = record { prdfail = false; disabled = false; swap = false; flags1 = 0; flags2 = 0; flags3 = 0; speed = 0 }
 
--- the element of four zeros
+-- an element without SELECT
 abbrev pub unselected : Control
 unselected = record { select = false; request = nothing }
 

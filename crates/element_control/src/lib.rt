@@ -17,19 +17,8 @@ pub struct Control {
 }
 
 impl Control {
-    // The element of four zeros; an element without SELECT asks no more, whatever its other bits.
-    pub const UNSELECTED: Control = Control {
-        select: false,
-        request: Settings {
-            prdfail: false,
-            disabled: false,
-            swap: false,
-            flags1: 0,
-            flags2: 0,
-            flags3: 0,
-            speed: 0,
-        },
-    };
+    // An element without SELECT asks no more than this one, whatever its other bits.
+    pub const UNSELECTED: [u8; 4] = [0, 0, 0, 0];
 
     pub fn is_selected(e: [u8; 4]) -> bool
         ensures { λ r. ⌜ r ≡ selected e ⌝ }
@@ -47,7 +36,11 @@ impl Control {
                 request,
             }
         } else {
-            Control::UNSELECTED
+            let request = Settings::of(kind, Control::UNSELECTED);
+            Control {
+                select: false,
+                request,
+            }
         }
     }
 

@@ -68,12 +68,12 @@ pub fn fits(kind: Kind, x: [u8; ENTRY]) -> bool
         kind.shown_next(),
         kind.shown_last(),
     )
-        & (x[0] <= 8)
+        & code_allowed(x[0])
 }
 
 // An overall element shows its code alone.
 pub fn overall_fits(x: [u8; ENTRY]) -> bool
     ensures { λ r. ⌜ r ≡ fit mostOverall x 16 ⌝ }
 {
-    fields::are_within(x, 0x0f000000, 0, 0, 0) & (x[0] <= 8)
+    fields::are_within(x, 0x0f000000, 0, 0, 0) & code_allowed(x[0])
 }

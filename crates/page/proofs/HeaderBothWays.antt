@@ -4,7 +4,7 @@ use mathlib.Core.Bool.{true}
 use mathlib.Core.List.{List, _∷_, _++_}
 use Prim.Native.Nat.{ℕ, _+_, _<_, _-_}
 use native.Mathlib.Omega.{arith}
-use lib.Dec.{eqb, leb}
+use lib.Dec.{eqb}
 use lib.ListN.{length, getD, take}
 use borrow.Author.Tests.{eqb-true, le-leb, eq-eqb}
 use Rattle.bits.specs.Numbers.{big, bytes, Bytes}
@@ -13,13 +13,12 @@ use Rattle.bits.specs.Rows.{joined}
 use Rattle.bits.proofs.Each.{byte-small, four-small}
 use Rattle.bits.proofs.Widths.{big-bytes, bytes-big}
 use Rattle.bits.proofs.Rows.{take-four}
-use Rattle.refusals.specs.declared.Refusal.the-variants.{PageTooShort, PageCode, PageLength}
-use Rattle.refusals.specs.declared.Answer.{Answer}
+use Rattle.refusals.specs.declared.Refusal.the-variants.{PageCode, PageLength}
 use Rattle.refusals.specs.declared.Answer.the-variants.{Accepted}
-use Rattle.refusals.specs.Outcomes.{unless}
+use Rattle.refusals.specs.Outcomes.{next}
 use Rattle.refusals.proofs.AcceptedTests.{held, held-both}
 use Rattle.page.specs.Slots.{slotsOf, slotPlace}
-use Rattle.page.specs.Header.{shelfTested, pageTested, HasPage, lengthSaid, generationOn, generationOf, framed, headed, header}
+use Rattle.page.specs.Header.{shelfTested, pageTested, HasPage, lengthSaid, generationOn, generationOf, sizeTested, codeTested, saidTested, framed, headed, header}
 use Rattle.page.proofs.HeaderTests.{frame-passed, head-passed, head-parts, tested-formed}
 use Rattle.page.proofs.PagePut.{length-page}
 
@@ -29,13 +28,12 @@ same-four s p j k hs hp e = sym (bytes-big (fourAt s j) (four-small s hs j)) ∙
 
 -- a frame that passed has the code, and says the length
 pub frame-parts : (p : List ℕ) (code : ℕ) → framed p code ≡ Accepted → (getD p 0 0 ≡ code) × (lengthSaid p ≡ true)
-unfolding framed
+unfolding framed codeTested saidTested
 frame-parts p code a =
-    let r3 : Answer = unless (lengthSaid p) PageLength Accepted in
-    let r2 : Answer = unless (eqb (getD p 0 0) code) PageCode r3 in
-    let h1 = held (leb 4 (length p)) PageTooShort r2 a in
-    let h2 = held (eqb (getD p 0 0) code) PageCode r3 (h1 .1) in
-    (eqb-true (getD p 0 0) code (h2 .0), held (lengthSaid p) PageLength Accepted (h2 .1) .0)
+    let h1 = held-both (sizeTested p) (next (codeTested p code) (saidTested p)) a in
+    let h2 = held-both (codeTested p code) (saidTested p) (h1 .1) in
+    let e = held (eqb (getD p 0 0) code) PageCode Accepted (h2 .0) .0 in
+    (eqb-true (getD p 0 0) code e, held (lengthSaid p) PageLength Accepted (h2 .1) .0)
 
 module _ (c p : List ℕ) (code n : ℕ) (a : headed c p code n ≡ Accepted) where
   parts : (framed p code ≡ Accepted) × (length p ≡ slotPlace n) × (generationOn p ≡ generationOf c)

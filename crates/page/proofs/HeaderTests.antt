@@ -6,12 +6,12 @@ use Prim.Native.Nat.{ℕ, _-_, _≤_}
 use native.Mathlib.Omega.{arith}
 use lib.Dec.{eqb, leb}
 use lib.ListN.{length, getD}
-use borrow.Author.Tests.{eq-eqb, ne-eqb, eqb-true}
+use borrow.Author.Tests.{leb-true, eq-eqb, ne-eqb, eqb-true}
 use Rattle.bits.specs.Numbers.{bytes}
 use Rattle.bits.specs.Places.{fourAt, putFour}
 use Rattle.bits.proofs.FourPut.{length-put}
 use Rattle.bits.proofs.RowsPut.{four-behind}
-use Rattle.refusals.specs.declared.Refusal.the-variants.{ShelfNotWellFormed, PageTooShort, PageCode, PageLength, Generation}
+use Rattle.refusals.specs.declared.Refusal.the-variants.{ShelfNotWellFormed, PageTooShort, PageLength, Generation}
 use Rattle.refusals.specs.declared.Refusal.{Refusal}
 use Rattle.refusals.specs.declared.Answer.{Answer}
 use Rattle.refusals.specs.declared.Answer.the-variants.{Accepted, Refused}
@@ -22,27 +22,35 @@ use Rattle.shelf.specs.Limits.{HasTypes}
 use Rattle.shelf_formed.specs.Formed.{wellFormed}
 use Rattle.shelf_formed.proofs.ElementPut.{length-formed}
 use Rattle.page.specs.Slots.{slotsOf, slotPlace}
-use Rattle.page.specs.Header.{shelfTested, pageTested, lengthSaid, generationOn, generationOf, framed, lengthTested, generationTested, headed, header, headPut}
+use Rattle.page.specs.Header.{shelfTested, pageTested, lengthSaid, generationOn, generationOf, sizeTested, codeTested, saidTested, framed, lengthTested, generationTested, headed, header, headPut}
 
 -- the frame
 module _ (p : List ℕ) (code : ℕ) where
-  pub too-short : leb 4 (length p) ≡ false → Refused PageTooShort ≡ framed p code
-  unfolding framed
-  too-short e = rw e
+  abbrev named : Answer
+  named = next (codeTested p code) (saidTested p)
 
-  module _ (e1 : leb 4 (length p) ≡ true) where
-    pub other-code : eqb (getD p 0 0) code ≡ false → Refused PageCode ≡ framed p code
+  pub frame-passed : leb 4 (length p) ≡ true → eqb (getD p 0 0) code ≡ true → lengthSaid p ≡ true → Accepted ≡ framed p code
+  unfolding framed sizeTested codeTested saidTested
+  frame-passed l e t = rw (l, e, t)
+
+  module _ {a : Answer} (h : a ≡ sizeTested p) where
+    pub too-short : {r : Refusal} → a ≡ Refused r → a ≡ framed p code
     unfolding framed
-    other-code e = rw (e1, e)
+    too-short u = stopped (sizeTested p) named h u
 
-    module _ (e2 : eqb (getD p 0 0) code ≡ true) where
-      pub other-length : lengthSaid p ≡ false → Refused PageLength ≡ framed p code
-      unfolding framed
-      other-length e = rw (e1, e2, e)
+    module _ (u : a ≡ Accepted) where
+      pub has-frame : 4 ≤ length p
+      unfolding sizeTested
+      has-frame = leb-true 4 (length p) (held (leb 4 (length p)) PageTooShort Accepted (sym h ∙ u) .0)
 
-      pub frame-passed : lengthSaid p ≡ true → Accepted ≡ framed p code
-      unfolding framed
-      frame-passed e = rw (e1, e2, e)
+      module _ {b : Answer} (k : b ≡ codeTested p code) where
+        pub other-code : {r : Refusal} → b ≡ Refused r → b ≡ framed p code
+        unfolding framed
+        other-code v = gone-on (sizeTested p) named h u (stopped (codeTested p code) (saidTested p) k v)
+
+        pub said-last : {d : Answer} → b ≡ Accepted → d ≡ saidTested p → d ≡ framed p code
+        unfolding framed
+        said-last v q = gone-on (sizeTested p) named h u (gone-on (codeTested p code) (saidTested p) k v q)
 
 -- the length that the type list needs
 module _ (p : List ℕ) (n : ℕ) where

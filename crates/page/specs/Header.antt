@@ -33,12 +33,21 @@ generationOn p = big (fourAt p 4)
 abbrev pub generationOf : List ℕ → ℕ
 generationOf c = big (fourAt c 0)
 
--- the frame of any page. 2: fewer than 4 bytes; 3: another page code; 4: the bytes given are not page length + 4
+-- 2: fewer than 4 bytes
+unfoldable pub sizeTested : List ℕ → Answer
+sizeTested p = unless (leb 4 (length p)) PageTooShort Accepted
+
+-- 3: another page code
+unfoldable pub codeTested : List ℕ → ℕ → Answer
+codeTested p code = unless (eqb (getD p 0 0) code) PageCode Accepted
+
+-- 4: the bytes given are not page length + 4
+unfoldable pub saidTested : List ℕ → Answer
+saidTested p = unless (lengthSaid p) PageLength Accepted
+
+-- 2 to 4: the frame of any page
 unfoldable pub framed : List ℕ → ℕ → Answer
-framed p code =
-    unless (leb 4 (length p)) PageTooShort
-    (unless (eqb (getD p 0 0) code) PageCode
-    (unless (lengthSaid p) PageLength Accepted))
+framed p code = next (sizeTested p) (next (codeTested p code) (saidTested p))
 
 -- 4: not the n bytes that the type list needs
 unfoldable pub lengthTested : List ℕ → ℕ → Answer

@@ -7,30 +7,51 @@ ghost use mathlib.Core.Path.{_≡_};
 ghost use Prim.Native.Nat.{_≤_};
 ghost use lib.ListN.{length};
 ghost use Rattle.shelf.specs.Limits.{HasTypes};
-ghost use Rattle.page.specs.Header.{lengthSaid, framed, lengthTested, generationTested, headed, headPut};
+ghost use Rattle.page.specs.Header.{sizeTested, codeTested, saidTested, framed, lengthTested, generationTested, headed, headPut};
 
-// The page says its own length.
-fn says_its_length(page: &[u8]) -> bool
-    requires { ⌜ 4 ≤ length (now page) ⌝ }
-    ensures { λ r. ⌜ r ≡ lengthSaid (now (page .entry)) ⌝ }
+fn test_size(page: &[u8]) -> Answer
+    ensures { λ r. ⌜ r ≡ sizeTested (now (page .entry)) ⌝ }
 {
-    page.len() == bits::big16_at(page, 2) as usize + 4
+    if page.len() < 4 {
+        return Answer::Refused(Refusal::PageTooShort);
+    }
+    Answer::Accepted
+}
+
+fn test_code(page: &[u8], code: u8) -> Answer
+    requires { ⌜ 4 ≤ length (now page) ⌝ }
+    ensures { λ r. ⌜ r ≡ codeTested (now (page .entry)) code ⌝ }
+{
+    if bits::byte_at(page, 0) != code {
+        return Answer::Refused(Refusal::PageCode);
+    }
+    Answer::Accepted
+}
+
+// The length that the page says.
+fn test_said(page: &[u8]) -> Answer
+    requires { ⌜ 4 ≤ length (now page) ⌝ }
+    ensures { λ r. ⌜ r ≡ saidTested (now (page .entry)) ⌝ }
+{
+    if page.len() != bits::big16_at(page, 2) as usize + 4 {
+        return Answer::Refused(Refusal::PageLength);
+    }
+    Answer::Accepted
 }
 
 // The frame, which every page has.
 pub fn test_frame(page: &[u8], code: u8) -> Answer
     ensures { λ r. ⌜ r ≡ framed (now (page .entry)) code ⌝ }
 {
-    if page.len() < 4 {
-        return Answer::Refused(Refusal::PageTooShort);
-    }
-    if bits::byte_at(page, 0) != code {
-        return Answer::Refused(Refusal::PageCode);
-    }
-    if !says_its_length(page) {
-        return Answer::Refused(Refusal::PageLength);
-    }
-    Answer::Accepted
+    let size = test_size(page);
+    let Answer::Accepted = size else {
+        return size;
+    };
+    let named = test_code(page, code);
+    let Answer::Accepted = named else {
+        return named;
+    };
+    test_said(page)
 }
 
 // The length that the type list needs.

@@ -24,6 +24,13 @@ fits-bytes k room {m} e = go (leb k room) refl e
     go true l q = (leb-true k room l, let r : m ≡ k = cc in r)
     go false l q = let z : _≡_ {A = ℕ} 0 1 = cc in absurd (omega arith)
 
+pub fits-not : (k room : ℕ) {r : Refusal} → fitted k room ≡ Refused r → (leb k room ≡ false) × (r ≡ OutputTooShort)
+fits-not k room {r} e = go (leb k room) e
+  where
+    go : (t : Bool) → pick t (Bytes k) (Refused OutputTooShort) ≡ Refused r → (t ≡ false) × (r ≡ OutputTooShort)
+    go true q = let z : _≡_ {A = ℕ} 0 1 = cc in absurd (omega arith)
+    go false q = (refl, cc)
+
 module _ (a : Answer) (told old : List ℕ) {b : Answer} (h : b ≡ a) where
   pub read-handed : {o : List ℕ} → b ≡ answer.Accepted → o ≡ placed told old → HandsBack a told old b o
   read-handed u e = (h, e ∙ sym (rw u))

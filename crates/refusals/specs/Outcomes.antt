@@ -50,6 +50,11 @@ abbrev pub passedOn : Answer → Written
 passedOn answer.Accepted = written.Bytes 0
 passedOn (answer.Refused r) = written.Refused r
 
+-- the answer of such a call, without its bytes
+abbrev pub writtenAnswer : Written → Answer
+writtenAnswer (written.Bytes n) = answer.Accepted
+writtenAnswer (written.Refused r) = answer.Refused r
+
 -- the output buffer afterwards: the page and what stood behind it, or as it was
 abbrev pub outAfter : Written → List ℕ → List ℕ → List ℕ
 outAfter (written.Bytes n) page out = page ++ drop n out

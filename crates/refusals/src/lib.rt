@@ -3,7 +3,7 @@
 // A refusal is a value with a number; every promise speaks of the value, and `numberOf` says which number it is.
 ghost use mathlib.Core.Path.{_≡_};
 ghost use Rattle.refusals.specs.Numbers.{numberOf, answerNumber, writtenNumber, bytesWritten};
-ghost use Rattle.refusals.specs.Outcomes.{withSlots, answerOf, fitted, passedOn};
+ghost use Rattle.refusals.specs.Outcomes.{withSlots, answerOf, fitted, writtenAnswer, passedOn};
 
 pub enum Refusal {
     ShelfNotWellFormed,
@@ -108,6 +108,15 @@ impl Written {
         } else {
             Written::Refused(Refusal::OutputTooShort)
         }
+    }
+
+    pub fn answer(self) -> Answer
+        ensures { λ r. ⌜ r ≡ writtenAnswer self ⌝ }
+    {
+        let Written::Refused(refusal) = self else {
+            return Answer::Accepted;
+        };
+        Answer::Refused(refusal)
     }
 
     // The refusal's number, or 0.

@@ -6,13 +6,14 @@ use Prim.Native.Nat.{ℕ, _<_}
 use native.Mathlib.Omega.{arith}
 use lib.Dec.{leb, eqb}
 use lib.ListN.{length}
-use borrow.Author.Tests.{eq-eqb, ne-eqb}
-use Rattle.bits.proofs.Logic.{and-both}
+use borrow.Author.Tests.{leb-false, eq-eqb, ne-eqb, eqb-true}
+use Rattle.bits.specs.Choice.{pick}
 use Rattle.shelf_formed.specs.declared.Sizes.{Sizes}
+use Rattle.shelf_formed.specs.declared.Opened.{Opened}
 use Rattle.shelf_formed.specs.declared.Opened.the-variants.{Shelf, NotWellFormed}
 use Rattle.shelf.specs.Limits.{mostElements, elementPlace}
 use Rattle.shelf.specs.Types.{typesOf, elementsOf}
-use Rattle.shelf_formed.specs.Formed.{headFormed, typesFormed, elementsFormed, frontFormed, wellFormed, configurationFormed, sizesIf, fronted, opened, configurationOpened}
+use Rattle.shelf_formed.specs.Formed.{headFormed, typesFormed, elementsFormed, frontFormed, wellFormed, configurationFormed, openedIf, sizesIf, fronted, frontOpened, asLong, blockOpened, elementsOpened, opened, configurationOpened}
 
 no-right : (a b : Bool) → b ≡ false → a && b ≡ false
 no-right true b e = e
@@ -23,16 +24,17 @@ with-right true b e = sym e
 with-right false b e = refl
 
 -- what an answer says of the test behind it
+if-yes : (t : Bool) {y z : Sizes} → openedIf t z ≡ Shelf y → (t ≡ true) × (y ≡ z)
+if-yes true q = (refl, cc)
+if-yes false q = let e : _≡_ {A = ℕ} 0 1 = cc in absurd (omega arith)
+
+if-no : (t : Bool) (z : Sizes) → openedIf t z ≡ NotWellFormed → t ≡ false
+if-no true z q = let e : _≡_ {A = ℕ} 0 1 = cc in absurd (omega arith)
+if-no false z q = refl
+
 module _ (s : List ℕ) where
   said-yes : (t : Bool) {z : Sizes} → sizesIf t s ≡ Shelf z → (t ≡ true) × (z .types ≡ typesOf s) × (z .elements ≡ elementsOf s)
-  said-yes true {z} q =
-      let p : z ≡ record { types = typesOf s; elements = elementsOf s } = cc in
-      (refl, ap (λ (x : Sizes). x .types) p, ap (λ (x : Sizes). x .elements) p)
-  said-yes false {z} q = let e : _≡_ {A = ℕ} 0 1 = cc in absurd (omega arith)
-
-  said-no : (t : Bool) → sizesIf t s ≡ NotWellFormed → t ≡ false
-  said-no true q = let e : _≡_ {A = ℕ} 0 1 = cc in absurd (omega arith)
-  said-no false q = refl
+  said-yes t q = let e = if-yes t q in (e .0, ap (λ (x : Sizes). x .types) (e .1), ap (λ (x : Sizes). x .elements) (e .1))
 
   yes : (t : Bool) {z : Sizes} → z .types ≡ typesOf s → z .elements ≡ elementsOf s → t ≡ true → Shelf z ≡ sizesIf t s
   yes t {z} p q e =
@@ -48,7 +50,7 @@ module _ (s : List ℕ) where
 
   pub not-formed : opened s ≡ NotWellFormed → wellFormed s ≡ false
   unfolding opened
-  not-formed e = said-no (wellFormed s) e
+  not-formed e = if-no (wellFormed s) _ e
 
   pub configuration-sizes : {z : Sizes} → configurationOpened s ≡ Shelf z
       → (configurationFormed s ≡ true) × (z .types ≡ typesOf s) × (z .elements ≡ elementsOf s)
@@ -57,7 +59,7 @@ module _ (s : List ℕ) where
 
   pub not-configuration : configurationOpened s ≡ NotWellFormed → configurationFormed s ≡ false
   unfolding configurationOpened
-  not-configuration e = said-no (configurationFormed s) e
+  not-configuration e = if-no (configurationFormed s) _ e
 
   pub front-is : {a b : Bool} {n m : ℕ} {x : Bool} → a ≡ headFormed s → n ≡ typesOf s → b ≡ typesFormed s n → m ≡ elementsOf s
       → (a && b) && leb m mostElements ≡ x → frontFormed s ≡ x
@@ -72,40 +74,33 @@ module _ (s : List ℕ) where
   unfolding fronted
   front-no e = no (frontFormed s) e
 
-  module _ (f : fronted s ≡ NotWellFormed) where
-    pub no-front : NotWellFormed ≡ opened s
-    unfolding fronted opened wellFormed
-    no-front = no (wellFormed s) (rw (said-no (frontFormed s) f))
-
-  module _ {z : Sizes} (f : fronted s ≡ Shelf z) where
-    at-front : (frontFormed s ≡ true) × (z .types ≡ typesOf s) × (z .elements ≡ elementsOf s)
-    unfolding fronted
-    at-front = said-yes (frontFormed s) f
-
-    pub no-length : eqb (length s) (elementPlace (z .elements)) ≡ false → NotWellFormed ≡ opened s
-    unfolding opened wellFormed
-    no-length e = no (wellFormed s) (rw (at-front .0, ap (λ n. eqb (length s) (elementPlace n)) (sym (at-front .2)) ∙ e))
-
-    pub no-elements : elementsFormed s (z .elements) ≡ false → NotWellFormed ≡ opened s
-    unfolding opened wellFormed
-    no-elements e =
-        no (wellFormed s)
-        (no-right (frontFormed s && eqb (length s) (elementPlace (elementsOf s))) (elementsFormed s (elementsOf s))
-        (ap (elementsFormed s) (sym (at-front .2)) ∙ e))
-
-    pub all-passed : eqb (length s) (elementPlace (z .elements)) ≡ true → elementsFormed s (z .elements) ≡ true → Shelf z ≡ opened s
-    unfolding opened wellFormed
-    all-passed l e =
-        yes (wellFormed s) (at-front .1) (at-front .2)
-        (and-both (and-both (at-front .0) (ap (λ n. eqb (length s) (elementPlace n)) (sym (at-front .2)) ∙ l))
-        (ap (elementsFormed s) (sym (at-front .2)) ∙ e))
-
   -- a block that ends before its first element could start
-  pub too-short : length s < elementPlace 0 → NotWellFormed ≡ opened s
+  too-short : length s < elementPlace 0 → NotWellFormed ≡ opened s
   unfolding opened wellFormed
   too-short h =
       no (wellFormed s)
       (rw (no-right (frontFormed s) (eqb (length s) (elementPlace (elementsOf s))) (ne-eqb (length s) (elementPlace (elementsOf s)) (λ e. omega arith))))
+
+  -- the front, and behind it the elements
+  module _ {x : Opened} (f : x ≡ frontOpened s) where
+    pub no-front : x ≡ NotWellFormed → NotWellFormed ≡ opened s
+    no-front u = go (leb (elementPlace 0) (length s)) refl (sym f ∙ u)
+      where
+        go : (t : Bool) → leb (elementPlace 0) (length s) ≡ t → pick t (fronted s) NotWellFormed ≡ NotWellFormed → NotWellFormed ≡ opened s
+        go true l q = unfold fronted opened wellFormed in no (wellFormed s) (rw (if-no (frontFormed s) _ q))
+        go false l q = too-short (leb-false (elementPlace 0) (length s) l)
+
+    module _ {z : Sizes} (u : x ≡ Shelf z) where
+      at-front : (frontFormed s ≡ true) × (z ≡ record { types = typesOf s; elements = elementsOf s })
+      at-front = go (leb (elementPlace 0) (length s)) (sym f ∙ u)
+        where
+          go : (t : Bool) → pick t (fronted s) NotWellFormed ≡ Shelf z → (frontFormed s ≡ true) × (z ≡ record { types = typesOf s; elements = elementsOf s })
+          go true q = unfold fronted in if-yes (frontFormed s) q
+          go false q = let e : _≡_ {A = ℕ} 0 1 = cc in absurd (omega arith)
+
+      pub elements-last : {r : Opened} → r ≡ elementsOpened s z → r ≡ opened s
+      unfolding opened wellFormed
+      elements-last e = e ∙ ap (elementsOpened s) (at-front .1) ∙ sym (rw (at-front .0))
 
   pub is-configuration : length s ≡ elementPlace 0 → fronted s ≡ configurationOpened s
   unfolding fronted configurationOpened configurationFormed
@@ -115,3 +110,21 @@ module _ (s : List ℕ) where
   pub no-configuration : (length s ≡ elementPlace 0 → ⊥) → NotWellFormed ≡ configurationOpened s
   unfolding configurationOpened configurationFormed
   no-configuration l = no (configurationFormed s) (no-right (frontFormed s) (eqb (length s) (elementPlace 0)) (ne-eqb (length s) (elementPlace 0) l))
+
+-- the bytes that elements of these sizes need, and behind that each of them
+module _ (s : List ℕ) (z : Sizes) {x : Opened} (f : x ≡ blockOpened s z) where
+  pub no-length : x ≡ NotWellFormed → NotWellFormed ≡ elementsOpened s z
+  no-length u = rw (if-no (asLong s z) z (sym f ∙ u))
+
+  module _ {y : Sizes} (u : x ≡ Shelf y) where
+    long : asLong s z ≡ true
+    long = if-yes (asLong s z) (sym f ∙ u) .0
+
+    pub has-elements : length s ≡ elementPlace (z .elements)
+    has-elements = eqb-true (length s) (elementPlace (z .elements)) long
+
+    pub each-formed : elementsFormed s (z .elements) ≡ true → x ≡ elementsOpened s z
+    each-formed e = f ∙ rw (long, e)
+
+    pub not-each : elementsFormed s (z .elements) ≡ false → NotWellFormed ≡ elementsOpened s z
+    not-each e = rw (long, e)

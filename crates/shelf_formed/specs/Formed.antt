@@ -9,6 +9,7 @@ use Rattle.bits.specs.Choice.{pick, allBelow}
 use Rattle.bits.specs.Bits.{printable}
 use Rattle.element.specs.Types.{served}
 use Rattle.element.specs.Settings.{fieldsFormed}
+use Rattle.shelf_formed.specs.declared.Sizes.{Sizes}
 use Rattle.shelf_formed.specs.declared.Opened.{Opened}
 use Rattle.shelf_formed.specs.declared.Opened.the-variants.{Shelf, NotWellFormed}
 use Rattle.shelf.specs.Limits.{mostTypes, mostElements, mostInType, mostText, typeSize, typePlace, textPlace, elementPlace, HasTypes}
@@ -81,11 +82,27 @@ unfoldable pub configurationFormed : List ℕ → Bool
 configurationFormed s = frontFormed s && eqb (length s) (elementPlace 0)
 
 -- how many types and elements there are, if the test passed
+abbrev pub openedIf : Bool → Sizes → Opened
+openedIf t z = pick t (Shelf z) NotWellFormed
+
 abbrev pub sizesIf : Bool → List ℕ → Opened
-sizesIf t s = pick t (Shelf (record { types = typesOf s; elements = elementsOf s })) NotWellFormed
+sizesIf t s = openedIf t (record { types = typesOf s; elements = elementsOf s })
 
 unfoldable pub fronted : List ℕ → Opened
 fronted s = sizesIf (frontFormed s) s
+
+-- a block is opened in stages: the front, if it has the bytes of one; just the bytes that elements of these sizes need; each of those
+abbrev pub frontOpened : List ℕ → Opened
+frontOpened s = pick (leb (elementPlace 0) (length s)) (fronted s) NotWellFormed
+
+abbrev pub asLong : List ℕ → Sizes → Bool
+asLong s z = eqb (length s) (elementPlace (z .elements))
+
+abbrev pub blockOpened : List ℕ → Sizes → Opened
+blockOpened s z = openedIf (asLong s z) z
+
+abbrev pub elementsOpened : List ℕ → Sizes → Opened
+elementsOpened s z = openedIf (asLong s z && elementsFormed s (z .elements)) z
 
 unfoldable pub opened : List ℕ → Opened
 opened s = sizesIf (wellFormed s) s

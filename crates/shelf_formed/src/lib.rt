@@ -10,7 +10,7 @@ ghost use lib.ListN.{length};
 ghost use Rattle.bits.specs.Choice.{allBelow};
 ghost use Rattle.shelf.specs.Limits.{mostText, elementPlace, HasTypes, HasText, HasElement};
 ghost use Rattle.shelf.specs.Types.{textLength, kindAt};
-ghost use Rattle.shelf_formed.specs.Formed.{headFormed, textByteFormed, textFormed, typeFormed, typeEmpty, slotFormed, typesFormed, spareClear, elementFormed, elementsFormed, fronted, opened, configurationOpened};
+ghost use Rattle.shelf_formed.specs.Formed.{headFormed, textByteFormed, textFormed, typeFormed, typeEmpty, slotFormed, typesFormed, spareClear, elementFormed, elementsFormed, fronted, frontOpened, blockOpened, elementsOpened, opened, configurationOpened};
 
 // How many types and elements a well-formed shelf has.
 pub struct Sizes {
@@ -26,17 +26,44 @@ pub enum Opened {
 pub fn open_shelf(shelf: &[u8]) -> Opened
     ensures { λ r. ⌜ r ≡ opened (now (shelf .entry)) ⌝ }
 {
-    if shelf.len() < limits::CONFIGURATION {
-        return Opened::NotWellFormed;
-    }
-    let front = front(shelf);
+    let front = open_front(shelf);
     let Opened::Shelf(sizes) = front else {
         return Opened::NotWellFormed;
     };
-    if shelf.len() != limits::block_length(sizes.elements) {
-        return Opened::NotWellFormed;
+    open_elements(shelf, sizes)
+}
+
+// A block that has the bytes of a front.
+fn open_front(shelf: &[u8]) -> Opened
+    ensures { λ r. ⌜ r ≡ frontOpened (now (shelf .entry)) ⌝ }
+{
+    if limits::CONFIGURATION <= shelf.len() {
+        front(shelf)
+    } else {
+        Opened::NotWellFormed
     }
+}
+
+// The elements behind a front of these sizes.
+fn open_elements(shelf: &[u8], sizes: Sizes) -> Opened
+    ensures { λ r. ⌜ r ≡ elementsOpened (now (shelf .entry)) sizes ⌝ }
+{
+    let block = open_block(shelf, sizes);
+    let Opened::Shelf(_) = block else {
+        return Opened::NotWellFormed;
+    };
     if elements_formed(shelf, sizes.elements) {
+        block
+    } else {
+        Opened::NotWellFormed
+    }
+}
+
+// The block has just the bytes that they need.
+fn open_block(shelf: &[u8], sizes: Sizes) -> Opened
+    ensures { λ r. ⌜ r ≡ blockOpened (now (shelf .entry)) sizes ⌝ }
+{
+    if shelf.len() == limits::block_length(sizes.elements) {
         Opened::Shelf(sizes)
     } else {
         Opened::NotWellFormed

@@ -1,4 +1,4 @@
--- The worst of the codes seen so far, and whether a code was seen, one element after the other. Assumes nothing.
+-- The worst of the codes seen so far, and the page bits, one element after the other. Assumes nothing.
 use mathlib.Core.Path.{_≡_, refl, sym, ap, _∙_}
 use mathlib.Core.Bool.{Bool, true, false, _||_}
 use mathlib.Core.List.{List}
@@ -9,7 +9,8 @@ use lib.Dec.{eqb}
 use Rattle.bits.specs.Choice.{pick}
 use Rattle.element.specs.declared.types.Kind.{Kind}
 use Rattle.shelf.specs.Types.{kindAt}
-use Rattle.shelf_status.specs.ShelfStatus.{codeAt, anyBelow, worstOf, has, worst, worse, isCode}
+use Rattle.shelf_status.specs.declared.PageBits.{PageBits}
+use Rattle.shelf_status.specs.ShelfStatus.{codeAt, anyBelow, worstOf, has, worst, worse, isCode, bitsWith}
 
 -- one code more, by which of the four were there
 step : (a b c d : Bool) (n : ℕ)
@@ -40,7 +41,10 @@ module _ (s : List ℕ) (k : Kind) (first : ℕ) where
   unfolding worst
   all-seen j end e p = p ∙ ap (λ n. worstOf (has s k first n)) e
 
--- a code seen by one element more
-pub seen-next : (s : List ℕ) (code j : ℕ) {b : Bool} {k : Kind} {n : ℕ} → b ≡ anyBelow (isCode s code) j → k ≡ kindAt s j → n ≡ codeAt s k j
-    → b || eqb n code ≡ anyBelow (isCode s code) (j + 1)
-seen-next s code j p q r = rw (add-one, p, r, q)
+-- the page bits of the first n elements, one element after the other
+abbrev pub bitsSeen : List ℕ → ℕ → PageBits
+bitsSeen s n = record { noncritical = anyBelow (isCode s 3) n; critical = anyBelow (isCode s 2) n }
+
+pub seen-next : (s : List ℕ) (j : ℕ) {b r : PageBits} {k : Kind} {n : ℕ} → b ≡ bitsSeen s j → k ≡ kindAt s j → n ≡ codeAt s k j → r ≡ bitsWith b n
+    → r ≡ bitsSeen s (j + 1)
+seen-next s j p q e h = h ∙ rw (add-one, p, e, q)

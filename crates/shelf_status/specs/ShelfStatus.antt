@@ -52,6 +52,10 @@ isCode s code j = eqb (codeAt s (kindAt s j) j) code
 abbrev pub anyElement : List ℕ → ℕ → Bool
 anyElement s code = anyBelow (isCode s code) (elementsOf s)
 
+-- the bits after one more element, which has this code
+abbrev pub bitsWith : PageBits → ℕ → PageBits
+bitsWith b code = record { noncritical = b .noncritical || eqb code 3; critical = b .critical || eqb code 2 }
+
 -- NON-CRIT if any has 3, CRIT if any has 2
 unfoldable pub pageBits : List ℕ → PageBits
 pageBits s = record { noncritical = anyElement s 3; critical = anyElement s 2 }

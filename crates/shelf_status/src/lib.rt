@@ -9,7 +9,7 @@ ghost use lib.ListN.{length};
 ghost use Rattle.element.specs.Status.{statusBytes};
 ghost use Rattle.shelf.specs.Limits.{elementPlace, HasElement};
 ghost use Rattle.shelf_formed.specs.Formed.{wellFormed};
-ghost use Rattle.shelf_status.specs.ShelfStatus.{shownAt, codeAt, worse, worst, pageBits, bitsByte};
+ghost use Rattle.shelf_status.specs.ShelfStatus.{shownAt, codeAt, worse, worst, bitsWith, pageBits, bitsByte};
 
 // The two bits of a status page that tell of all its elements.
 pub struct PageBits {
@@ -23,22 +23,36 @@ impl PageBits {
         ensures { λ r. ⌜ r ≡ pageBits (now (shelf .entry)) ⌝ }
     {
         let n = types::all_elements(shelf);
-        let mut noncritical = false;
-        let mut critical = false;
+        let mut seen = PageBits {
+            noncritical: false,
+            critical: false,
+        };
         let mut run = types::first_run(shelf);
         let mut j: u16 = 0;
         while j < n {
             let here = types::run_to(shelf, run, j);
             run = here;
             let kind = here.kind;
-            let code = code_at(shelf, kind, j);
-            noncritical = noncritical | (code == 3);
-            critical = critical | (code == 2);
+            seen = seen.with(code_at(shelf, kind, j));
             j += 1;
         }
-        PageBits {
-            noncritical,
-            critical,
+        seen
+    }
+
+    // The bits after one more element, which has this code.
+    fn with(self, code: u8) -> PageBits
+        ensures { λ r. ⌜ r ≡ bitsWith self code ⌝ }
+    {
+        match code {
+            2 => PageBits {
+                noncritical: self.noncritical,
+                critical: true,
+            },
+            3 => PageBits {
+                noncritical: true,
+                critical: self.critical,
+            },
+            _ => self,
         }
     }
 

@@ -1,15 +1,15 @@
 -- The test of one entry, and the refusals of the writer one after the other. Assumes nothing.
 use mathlib.Core.Path.{_≡_, sym, ap, _∙_}
-use mathlib.Core.Bool.{Bool, true, false}
+use mathlib.Core.Bool.{Bool}
 use mathlib.Core.List.{List}
 use Prim.Native.Nat.{ℕ, _≤_}
 use lib.ListN.{length}
 use Rattle.element.specs.StatusLayout.{fit}
-use Rattle.refusals.specs.declared.Refusal.the-variants.{NotAllowed}
 use Rattle.refusals.specs.declared.Refusal.{Refusal}
 use Rattle.refusals.specs.declared.Answer.{Answer}
 use Rattle.refusals.specs.declared.Answer.the-variants.{Accepted, Refused}
-use Rattle.refusals.specs.Outcomes.{placed}
+use Rattle.refusals.specs.Outcomes.{next, placed}
+use Rattle.refusals.proofs.Stages.{stopped, gone-on}
 use Rattle.record_head.specs.Head.{countTested}
 use Rattle.shelf_formed.specs.Formed.{HasFront}
 use Rattle.page.specs.declared.slots.Slot.{Slot}
@@ -18,35 +18,33 @@ use Rattle.page.specs.Header.{headPut}
 use Rattle.page.proofs.SlotBounds.{accepted-there}
 use Rattle.shelf_status.specs.declared.PageBits.{PageBits}
 use Rattle.shelf_status.specs.ShelfStatus.{bitsByte}
-use Rattle.status_record.specs.Entries.{entryAt, bitsAt, bitsFormed}
+use Rattle.status_record.specs.Entries.{entryAt, bitsAt}
 use Rattle.status_page.specs.Page.{slotRow}
 use Rattle.status_page.proofs.Refusals.{with-placed, with-length}
-use Rattle.status_rewritten.specs.Rewritten.{slotMost, entryFormed, entriesFormed, entriesTested, recordTested, pageAgain}
+use Rattle.status_rewritten.specs.Rewritten.{slotMost, entryFormed, bitsTested, fieldsTested, entriesTested, recordTested, pageAgain}
 
 -- one entry's test
 pub entry-tested : (c r : List ℕ) (i : ℕ) {at : Slot} {t : Bool} → at ≡ slotAt c i → t ≡ fit (slotMost at) (entryAt r i) 16 → t ≡ entryFormed c r i
 unfolding entryFormed
 entry-tested c r i q h = h ∙ rw q
 
--- the entries of a record, from what the calls say
-module _ (c r : List ℕ) (n : ℕ) {a : Answer} (x : a ≡ countTested r n) where
-  pub other-count : {z : Refusal} → a ≡ Refused z → a ≡ entriesTested c r n
+-- the entries of a record, stage by stage
+module _ (c r : List ℕ) (n : ℕ) {a : Answer} (h : a ≡ countTested r n) where
+  abbrev behind : Answer
+  behind = next (bitsTested r) (fieldsTested c r n)
+
+  pub other-count : {x : Refusal} → a ≡ Refused x → a ≡ entriesTested c r n
   unfolding entriesTested
-  other-count t = t ∙ sym (rw (← x, t))
+  other-count u = stopped (countTested r n) behind h u
 
-  module _ (u : a ≡ Accepted) {b : Bool} (y : b ≡ bitsFormed r) where
-    pub other-bits : b ≡ false → Refused NotAllowed ≡ entriesTested c r n
+  module _ (u : a ≡ Accepted) {b : Answer} (k : b ≡ bitsTested r) where
+    pub other-bits : {x : Refusal} → b ≡ Refused x → b ≡ entriesTested c r n
     unfolding entriesTested
-    other-bits t = sym (rw (← x, u, ← y, t))
+    other-bits v = gone-on (countTested r n) behind h u (stopped (bitsTested r) (fieldsTested c r n) k v)
 
-    module _ (v : b ≡ true) {f : Bool} (z : f ≡ entriesFormed c r n) where
-      pub other-fields : f ≡ false → Refused NotAllowed ≡ entriesTested c r n
-      unfolding entriesTested
-      other-fields t = sym (rw (← x, u, ← y, v, ← z, t))
-
-      pub entries-passed : f ≡ true → Accepted ≡ entriesTested c r n
-      unfolding entriesTested
-      entries-passed t = sym (rw (← x, u, ← y, v, ← z, t))
+    pub fields-last : {d : Answer} → b ≡ Accepted → d ≡ fieldsTested c r n → d ≡ entriesTested c r n
+    unfolding entriesTested
+    fields-last v q = gone-on (countTested r n) behind h u (gone-on (bitsTested r) (fieldsTested c r n) k v q)
 
 pub record-front : (c r : List ℕ) {a : Answer} → a ≡ recordTested c r → a ≡ Accepted → HasFront c
 unfolding recordTested

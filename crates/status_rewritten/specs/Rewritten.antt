@@ -26,12 +26,17 @@ entryFormed c r i = fit (slotMost (slotAt c i)) (entryAt r i) 16
 unfoldable pub entriesFormed : List ℕ → List ℕ → ℕ → Bool
 entriesFormed c r n = allBelow (entryFormed c r) n
 
--- 9: another number of entries than n; 6: a field
+-- 6: a page bit that is neither 0 nor 1
+abbrev pub bitsTested : List ℕ → Answer
+bitsTested r = unless (bitsFormed r) NotAllowed Accepted
+
+-- 6: a field of the first n entries
+abbrev pub fieldsTested : List ℕ → List ℕ → ℕ → Answer
+fieldsTested c r n = unless (entriesFormed c r n) NotAllowed Accepted
+
+-- 9: the number of entries; 6: the page bits, the fields
 unfoldable pub entriesTested : List ℕ → List ℕ → ℕ → Answer
-entriesTested c r n =
-    next (countTested r n)
-    (unless (bitsFormed r) NotAllowed
-    (unless (entriesFormed c r n) NotAllowed Accepted))
+entriesTested c r n = next (countTested r n) (next (bitsTested r) (fieldsTested c r n))
 
 -- 1: no configuration; 9, 6: the entries
 unfoldable pub recordTested : List ℕ → List ℕ → Answer

@@ -17,7 +17,7 @@ ghost use Rattle.shelf_formed.specs.Formed.{HasFront};
 ghost use Rattle.page.specs.Slots.{slotsOf, slotPlace, slotsPut};
 ghost use Rattle.status_page.specs.Page.{slotRow};
 ghost use Rattle.status_record.specs.Entries.{entryPlace, HasEntry, entryAt};
-ghost use Rattle.status_rewritten.specs.Rewritten.{slotMost, entriesFormed, entriesTested, recordTested, pageAgain};
+ghost use Rattle.status_rewritten.specs.Rewritten.{slotMost, bitsTested, fieldsTested, entriesTested, recordTested, pageAgain};
 
 // No field of entry i is out of range, or set where its slot shows none.
 fn entry_formed(fields: &[u8], at: Slot, i: u16) -> bool
@@ -33,11 +33,20 @@ fn entry_formed(fields: &[u8], at: Slot, i: u16) -> bool
     }
 }
 
-fn entries_formed(configuration: &[u8], fields: &[u8], n: u16) -> bool
+fn test_bits(fields: &[u8; status_record::LENGTH]) -> Answer
+    ensures { λ r. ⌜ r ≡ bitsTested (now (fields .entry)) ⌝ }
+{
+    if !status_record::bits_formed(fields) {
+        return Answer::Refused(Refusal::NotAllowed);
+    }
+    Answer::Accepted
+}
+
+fn test_fields(configuration: &[u8], fields: &[u8], n: u16) -> Answer
     requires { ⌜ HasFront (now configuration) ⌝ }
     requires { ⌜ n ≤ slotsOf (now configuration) ⌝ }
     requires { ⌜ entryPlace n ≤ length (now fields) ⌝ }
-    ensures { λ r. ⌜ r ≡ entriesFormed (now (configuration .entry)) (now (fields .entry)) n ⌝ }
+    ensures { λ r. ⌜ r ≡ fieldsTested (now (configuration .entry)) (now (fields .entry)) n ⌝ }
 {
     let mut run = slots::first_run();
     let mut i: u16 = 0;
@@ -46,11 +55,11 @@ fn entries_formed(configuration: &[u8], fields: &[u8], n: u16) -> bool
         run = here;
         let at = slots::slot_in(here, i);
         if !entry_formed(fields, at, i) {
-            return false;
+            return Answer::Refused(Refusal::NotAllowed);
         }
         i += 1;
     }
-    true
+    Answer::Accepted
 }
 
 fn put_slots(configuration: &[u8], fields: &[u8], out: &mut [u8], n: u16)
@@ -82,13 +91,11 @@ fn test_entries(configuration: &[u8], fields: &[u8; status_record::LENGTH], n: u
     let Answer::Accepted = counted else {
         return counted;
     };
-    if !status_record::bits_formed(fields) {
-        return Answer::Refused(Refusal::NotAllowed);
-    }
-    if !entries_formed(configuration, fields, n) {
-        return Answer::Refused(Refusal::NotAllowed);
-    }
-    Answer::Accepted
+    let flags = test_bits(fields);
+    let Answer::Accepted = flags else {
+        return flags;
+    };
+    test_fields(configuration, fields, n)
 }
 
 pub fn test(configuration: &[u8], fields: &[u8; status_record::LENGTH]) -> Answer

@@ -4,17 +4,17 @@ use mathlib.Core.Bool.{Bool, true, false}
 use mathlib.Core.List.{List}
 use Prim.Native.Nat.{ℕ, _<_}
 use native.Mathlib.Omega.{arith}
-use lib.ListN.{getD}
-use borrow.Author.Tests.{eq-eqb, ne-eqb}
 use Rattle.bits.specs.Choice.{allBelow}
-use Rattle.bits.proofs.Logic.{below-fails}
+use Rattle.bits.proofs.Logic.{pick-yes, pick-no, below-fails}
 use Rattle.element.specs.Types.{ordered}
-use Rattle.refusals.specs.declared.Refusal.the-variants.{NotAllowed, NoSuchThreshold, ThresholdOrder}
+use Rattle.refusals.specs.declared.Refusal.the-variants.{ThresholdOrder}
+use Rattle.refusals.specs.declared.Refusal.{Refusal}
+use Rattle.refusals.specs.declared.Answer.{Answer}
 use Rattle.refusals.specs.declared.Answer.the-variants.{Accepted, Refused}
 use Rattle.refusals.specs.declared.Tested.{Tested}
 use Rattle.refusals.specs.declared.Tested.the-variants.{Slots}
-use Rattle.refusals.specs.Outcomes.{withSlots}
-use Rattle.refusals.proofs.Stages.{slots-told}
+use Rattle.refusals.specs.Outcomes.{next, withSlots}
+use Rattle.refusals.proofs.Stages.{stopped, gone-on, slots-told}
 use Rattle.shelf.specs.Types.{elementsOf}
 use Rattle.shelf.specs.Elements.{thresholdsAt}
 use Rattle.page.specs.declared.places.Places.{Places}
@@ -22,9 +22,9 @@ use Rattle.page.specs.Places.{placesOf}
 use Rattle.page.specs.Slots.{slotsOf}
 use Rattle.page.specs.Header.{HasPage, pageTested}
 use Rattle.page.proofs.ElementSlots.{front-there, page-has}
-use Rattle.threshold_rows.specs.Rows.{onPage, HasRows, allHad}
+use Rattle.threshold_rows.specs.Rows.{onPage, HasRows, byteTested, hadTested}
 use Rattle.threshold_page_out.specs.Taken.{takenAt}
-use Rattle.threshold_page_out.specs.Tests.{elementOrdered, allOrdered, bytesTested}
+use Rattle.threshold_page_out.specs.Tests.{elementOrdered, allOrdered, orderTested, bytesTested}
 use Rattle.threshold_page_out.proofs.PageActs.{after-is}
 
 module _ (s p : List ℕ) where
@@ -33,33 +33,32 @@ module _ (s p : List ℕ) where
   unfolding elementOrdered placesOf
   ordered-is j q h e = e ∙ rw (ap (λ (z : Places). z .kind) q, after-is s p j q h)
 
-  pub not-ordered : {n : ℕ} (j : ℕ) → n ≡ elementsOf s → j < n → elementOrdered s p j ≡ false → false ≡ allOrdered s p
+  pub order-refused : {n : ℕ} (j : ℕ) → n ≡ elementsOf s → j < n → elementOrdered s p j ≡ false → Refused ThresholdOrder ≡ orderTested s p
   unfolding allOrdered
-  not-ordered j q l e = sym (below-fails (elementOrdered s p) (elementsOf s) j (rw (← q) l) e)
+  order-refused j q l e = sym (pick-no _ _ _ (below-fails (elementOrdered s p) (elementsOf s) j (rw (← q) l) e))
 
-  pub each-ordered : {n : ℕ} (j : ℕ) → n ≡ elementsOf s → j ≡ n → allBelow (elementOrdered s p) j ≡ true → true ≡ allOrdered s p
+  pub each-ordered : {n : ℕ} (j : ℕ) → n ≡ elementsOf s → j ≡ n → allBelow (elementOrdered s p) j ≡ true → Accepted ≡ orderTested s p
   unfolding allOrdered
-  each-ordered j q r e = sym (rw (← q, ← r) e)
+  each-ordered j q r e = sym (pick-yes (allOrdered s p) _ _ (rw (← q, ← r) e))
 
   -- the page's own tests
   module _ (n : ℕ) where
-    pub byte-refused : {b : ℕ} → b ≡ getD p 1 0 → (b ≡ 0 → ⊥) → Refused NotAllowed ≡ bytesTested s p n
-    unfolding bytesTested
-    byte-refused {b} q t = sym (rw (← q, ne-eqb b 0 t))
+    abbrev behind : Answer
+    behind = next (hadTested s p onPage n) (orderTested s p)
 
-    module _ {b : ℕ} {x : Bool} (q : b ≡ getD p 1 0) (e : b ≡ 0) (y : x ≡ allHad s p onPage n) where
-      pub not-had : x ≡ false → Refused NoSuchThreshold ≡ bytesTested s p n
+    module _ {a : Answer} (h : a ≡ byteTested p) where
+      pub byte-refused : {r : Refusal} → a ≡ Refused r → a ≡ bytesTested s p n
       unfolding bytesTested
-      not-had v = sym (rw (← q, eq-eqb b 0 e, ← y, v))
+      byte-refused u = stopped (byteTested p) behind h u
 
-      module _ (v : x ≡ true) {z : Bool} (o : z ≡ allOrdered s p) where
-        pub order-refused : z ≡ false → Refused ThresholdOrder ≡ bytesTested s p n
+      module _ (u : a ≡ Accepted) {b : Answer} (k : b ≡ hadTested s p onPage n) where
+        pub not-had : {r : Refusal} → b ≡ Refused r → b ≡ bytesTested s p n
         unfolding bytesTested
-        order-refused w = sym (rw (← q, eq-eqb b 0 e, ← y, v, ← o, w))
+        not-had v = gone-on (byteTested p) behind h u (stopped (hadTested s p onPage n) (orderTested s p) k v)
 
-        pub bytes-passed : z ≡ true → Accepted ≡ bytesTested s p n
+        pub order-last : {d : Answer} → b ≡ Accepted → d ≡ orderTested s p → d ≡ bytesTested s p n
         unfolding bytesTested
-        bytes-passed w = sym (rw (← q, eq-eqb b 0 e, ← y, v, ← o, w))
+        order-last v q = gone-on (byteTested p) behind h u (gone-on (hadTested s p onPage n) (orderTested s p) k v q)
 
 -- the bytes that they read, behind the tests of the shelf and the header
 pub page-room : (s p : List ℕ) {t : Tested} {n : ℕ} → t ≡ withSlots (pageTested s p 0x05) (slotsOf s) → t ≡ Slots n → HasPage s p × (n ≡ slotsOf s)

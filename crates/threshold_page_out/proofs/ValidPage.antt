@@ -3,16 +3,14 @@ use mathlib.Core.Path.{_≡_}
 use mathlib.Core.Bool.{true}
 use mathlib.Core.List.{List}
 use Prim.Native.Nat.{ℕ, _<_}
-use lib.Dec.{eqb}
-use lib.ListN.{getD}
 use Rattle.bits.specs.Places.{fourAt}
 use Rattle.bits.proofs.Logic.{below-at}
 use Rattle.element.specs.Types.{had, ordered}
 use Rattle.element.proofs.TypeThresholds.{taken-had}
-use Rattle.refusals.specs.declared.Refusal.the-variants.{NotAllowed, NoSuchThreshold, ThresholdOrder}
+use Rattle.refusals.specs.declared.Refusal.the-variants.{NoSuchThreshold, ThresholdOrder}
 use Rattle.refusals.specs.declared.Answer.{Answer}
 use Rattle.refusals.specs.declared.Answer.the-variants.{Accepted}
-use Rattle.refusals.specs.Outcomes.{unless}
+use Rattle.refusals.specs.Outcomes.{next}
 use Rattle.refusals.proofs.AcceptedTests.{accepted, held, held-both}
 use Rattle.shelf.specs.Types.{elementsOf, kindAt}
 use Rattle.shelf.specs.Elements.{thresholdsAt}
@@ -24,21 +22,20 @@ use Rattle.page.specs.Places.{ownSlot, overallSlot, placesOf}
 use Rattle.page.specs.Header.{pageTested}
 use Rattle.page.proofs.HeaderTests.{tested-formed}
 use Rattle.page.proofs.ElementSlots.{own-kind, overall-kind, own-there, overall-there}
-use Rattle.threshold_rows.specs.Rows.{onPage, rowHad, allHad}
+use Rattle.threshold_rows.specs.Rows.{onPage, rowHad, allHad, byteTested, hadTested}
 use Rattle.threshold_page_out.specs.Taken.{thresholdsAfter}
-use Rattle.threshold_page_out.specs.Tests.{elementOrdered, allOrdered, bytesTested, thresholdsTested, valid}
+use Rattle.threshold_page_out.specs.Tests.{elementOrdered, allOrdered, orderTested, bytesTested, thresholdsTested, valid}
 
 module _ (s p : List ℕ) (v : valid s p ≡ true) where
   parts : (pageTested s p 0x05 ≡ Accepted) × (allHad s p onPage (slotsOf s) ≡ true) × (allOrdered s p ≡ true)
   unfolding valid thresholdsTested bytesTested
   parts =
-      let r3 : Answer = unless (allOrdered s p) ThresholdOrder Accepted in
-      let r2 : Answer = unless (allHad s p onPage (slotsOf s)) NoSuchThreshold r3 in
-      let r1 : Answer = unless (eqb (getD p 1 0) 0) NotAllowed r2 in
-      let h = held-both (pageTested s p 0x05) r1 (accepted (thresholdsTested s p) v) in
-      let h1 = held (eqb (getD p 1 0) 0) NotAllowed r2 (h .1) in
-      let h2 = held (allHad s p onPage (slotsOf s)) NoSuchThreshold r3 (h1 .1) in
-      (h .0, h2 .0, held (allOrdered s p) ThresholdOrder Accepted (h2 .1) .0)
+      let n = slotsOf s in
+      let r : Answer = next (hadTested s p onPage n) (orderTested s p) in
+      let h = held-both (pageTested s p 0x05) (next (byteTested p) r) (accepted (thresholdsTested s p) v) in
+      let h1 = held-both (byteTested p) r (h .1) in
+      let h2 = held-both (hadTested s p onPage n) (orderTested s p) (h1 .1) in
+      (h .0, held (allHad s p onPage n) NoSuchThreshold Accepted (h2 .0) .0, held (allOrdered s p) ThresholdOrder Accepted (h2 .1) .0)
 
   pub valid-headed : pageTested s p 0x05 ≡ Accepted
   valid-headed = parts .0

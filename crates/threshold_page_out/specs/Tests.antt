@@ -2,18 +2,16 @@
 use mathlib.Core.Bool.{Bool}
 use mathlib.Core.List.{List}
 use Prim.Native.Nat.{ℕ}
-use lib.Dec.{eqb}
-use lib.ListN.{getD}
 use Rattle.bits.specs.Choice.{pick, allBelow}
 use Rattle.element.specs.Types.{ordered}
-use Rattle.refusals.specs.declared.Refusal.the-variants.{NotAllowed, NoSuchThreshold, ThresholdOrder}
+use Rattle.refusals.specs.declared.Refusal.the-variants.{ThresholdOrder}
 use Rattle.refusals.specs.declared.Answer.{Answer}
 use Rattle.refusals.specs.declared.Answer.the-variants.{Accepted}
 use Rattle.refusals.specs.Outcomes.{unless, next, accepts}
 use Rattle.shelf.specs.Types.{elementsOf, kindAt}
 use Rattle.page.specs.Slots.{slotsOf}
 use Rattle.page.specs.Header.{pageTested}
-use Rattle.threshold_rows.specs.Rows.{onPage, allHad}
+use Rattle.threshold_rows.specs.Rows.{onPage, byteTested, hadTested}
 use Rattle.threshold_page_out.specs.Taken.{thresholdsAfter, takenFrom, withThresholds}
 
 -- element j would keep the threshold order
@@ -23,12 +21,13 @@ elementOrdered s p j = ordered (kindAt s j) (thresholdsAfter s p j)
 unfoldable pub allOrdered : List ℕ → List ℕ → Bool
 allOrdered s p = allBelow (elementOrdered s p) (elementsOf s)
 
--- 6: byte 1 is reserved; 7: a byte of the n slots, overall or individual, that the type doesn't have; 8: some element would break the order
+-- 8: some element would break the order
+abbrev pub orderTested : List ℕ → List ℕ → Answer
+orderTested s p = unless (allOrdered s p) ThresholdOrder Accepted
+
+-- 6: byte 1 is reserved; 7: a byte of the n slots, overall or individual, that the type doesn't have; 8: the order
 unfoldable pub bytesTested : List ℕ → List ℕ → ℕ → Answer
-bytesTested s p n =
-    unless (eqb (getD p 1 0) 0) NotAllowed
-    (unless (allHad s p onPage n) NoSuchThreshold
-    (unless (allOrdered s p) ThresholdOrder Accepted))
+bytesTested s p n = next (byteTested p) (next (hadTested s p onPage n) (orderTested s p))
 
 -- 1 to 5: the shelf and the header; 6, 7, 8: the bytes
 unfoldable pub thresholdsTested : List ℕ → List ℕ → Answer

@@ -11,7 +11,7 @@ ghost use Rattle.shelf.specs.Limits.{HasElement};
 ghost use Rattle.page.specs.Places.{placesOf, HasSlots};
 ghost use Rattle.page.specs.Slots.{slotsOf};
 ghost use Rattle.page.specs.Header.{HasPage};
-ghost use Rattle.threshold_page_out.specs.Tests.{elementOrdered, allOrdered, bytesTested, thresholdsTested};
+ghost use Rattle.threshold_page_out.specs.Tests.{elementOrdered, orderTested, bytesTested, thresholdsTested};
 
 const CODE: u8 = 0x05;
 
@@ -26,9 +26,9 @@ fn element_ordered(shelf: &[u8], page: &[u8], at: Places, j: u16) -> bool
     element_thresholds::are_ordered(kind, acting::taken_at(shelf, page, at, j))
 }
 
-fn all_ordered(shelf: &[u8], page: &[u8]) -> bool
+fn test_order(shelf: &[u8], page: &[u8]) -> Answer
     requires { ⌜ HasPage (now shelf) (now page) ⌝ }
-    ensures { λ r. ⌜ r ≡ allOrdered (now (shelf .entry)) (now (page .entry)) ⌝ }
+    ensures { λ r. ⌜ r ≡ orderTested (now (shelf .entry)) (now (page .entry)) ⌝ }
 {
     let n = types::all_elements(shelf);
     let mut run = types::first_run(shelf);
@@ -37,11 +37,11 @@ fn all_ordered(shelf: &[u8], page: &[u8]) -> bool
         let here = types::run_to(shelf, run, j);
         run = here;
         if !element_ordered(shelf, page, places::places_in(here, j), j) {
-            return false;
+            return Answer::Refused(Refusal::ThresholdOrder);
         }
         j += 1;
     }
-    true
+    Answer::Accepted
 }
 
 // The page's own tests. 7 is tested of all slots before 8 of any element.
@@ -50,16 +50,15 @@ fn test_bytes(shelf: &[u8], page: &[u8], n: u16) -> Answer
     requires { ⌜ n ≡ slotsOf (now shelf) ⌝ }
     ensures { λ r. ⌜ r ≡ bytesTested (now (shelf .entry)) (now (page .entry)) n ⌝ }
 {
-    if bits::byte_at(page, 1) != 0 {
-        return Answer::Refused(Refusal::NotAllowed);
-    }
-    if !threshold_rows::all_had(shelf, page, threshold_rows::ON_PAGE, n) {
-        return Answer::Refused(Refusal::NoSuchThreshold);
-    }
-    if !all_ordered(shelf, page) {
-        return Answer::Refused(Refusal::ThresholdOrder);
-    }
-    Answer::Accepted
+    let byte = threshold_rows::test_byte(page);
+    let Answer::Accepted = byte else {
+        return byte;
+    };
+    let had = threshold_rows::test_had(shelf, page, threshold_rows::ON_PAGE, n);
+    let Answer::Accepted = had else {
+        return had;
+    };
+    test_order(shelf, page)
 }
 
 pub fn test(shelf: &[u8], page: &[u8]) -> Answer

@@ -14,7 +14,7 @@ use Rattle.bits.proofs.RowsPut.{put-behind, four-behind}
 use Rattle.refusals.specs.declared.Refusal.the-variants.{ShelfNotWellFormed, NotAllowed}
 use Rattle.refusals.specs.declared.Answer.{Answer}
 use Rattle.refusals.specs.declared.Answer.the-variants as answer
-use Rattle.refusals.specs.Outcomes.{unless, next, placed}
+use Rattle.refusals.specs.Outcomes.{placed}
 use Rattle.refusals.proofs.AcceptedTests.{held, held-both}
 use Rattle.record_head.specs.Head.{recordHead}
 use Rattle.shelf.specs.Limits.{mostTypes, mostElements}
@@ -26,19 +26,9 @@ use Rattle.page.proofs.HeaderTests.{head-put}
 use Rattle.page.proofs.HeaderBothWays.{length-tested}
 use Rattle.page.proofs.SlotBounds.{configuration-there, accepted-there, slots-bound}
 use Rattle.page.proofs.PagePut.{length-header}
-use Rattle.threshold_rows.specs.Rows.{onPage, inRecord, rowPlace, rowsTested}
+use Rattle.threshold_rows.specs.Rows.{onPage, inRecord, rowPlace, byteTested, rowsTested}
 use Rattle.threshold_record.specs.Read.{bytesTested, thresholdTested, thresholdRead, thresholdRecord}
 use Rattle.threshold_record.specs.Rewritten.{entriesTested, recordTested, pageAgain}
-
--- the page's own tests
-module _ (c p : List ℕ) (n : ℕ) {b : ℕ} (x : b ≡ getD p 1 0) where
-  pub byte-refused : (b ≡ 0 → ⊥) → answer.Refused NotAllowed ≡ bytesTested c p n
-  unfolding bytesTested
-  byte-refused t = sym (rw (← x, ne-eqb b 0 t))
-
-  pub rows-last : {a : Answer} → b ≡ 0 → a ≡ rowsTested c p onPage n → a ≡ bytesTested c p n
-  unfolding bytesTested
-  rows-last t v = v ∙ sym (rw (← x, eq-eqb b 0 t))
 
 pub parts-read : (c p : List ℕ) → configurationFormed c ≡ true → headed c p 0x05 (slotsOf c) ≡ answer.Accepted → getD p 1 0 ≡ 0
     → rowsTested c p onPage (slotsOf c) ≡ answer.Accepted → thresholdRead c p ≡ answer.Accepted
@@ -52,12 +42,11 @@ module _ (c p : List ℕ) (a : thresholdRead c p ≡ answer.Accepted) where
   unfolding thresholdRead thresholdTested bytesTested
   read-parts =
       let n = slotsOf c in
-      let r3 : Answer = rowsTested c p onPage n in
-      let r2 : Answer = unless (eqb (getD p 1 0) 0) NotAllowed r3 in
-      let h1 = held-both (configurationTested c) (next (headed c p 0x05 n) r2) a in
-      let h2 = held-both (headed c p 0x05 n) r2 (h1 .1) in
-      let h3 = held (eqb (getD p 1 0) 0) NotAllowed r3 (h2 .1) in
-      (held (configurationFormed c) ShelfNotWellFormed answer.Accepted (h1 .0) .0, h2 .0, eqb-true (getD p 1 0) 0 (h3 .0), h3 .1)
+      let h1 = held-both (configurationTested c) (thresholdTested c p n) a in
+      let h2 = held-both (headed c p 0x05 n) (bytesTested c p n) (h1 .1) in
+      let h3 = held-both (byteTested p) (rowsTested c p onPage n) (h2 .1) in
+      let o = eqb-true (getD p 1 0) 0 (held (eqb (getD p 1 0) 0) NotAllowed answer.Accepted (h3 .0) .0) in
+      (held (configurationFormed c) ShelfNotWellFormed answer.Accepted (h1 .0) .0, h2 .0, o, h3 .1)
 
   pub read-front : HasFront c
   read-front = configuration-there c (read-parts .0)

@@ -1,20 +1,17 @@
 -- The Threshold In page read: which pages are refused, and the record of the others. Assumes nothing.
 use mathlib.Core.List.{List, _++_}
 use Prim.Native.Nat.{ℕ, _*_}
-use lib.Dec.{eqb}
-use lib.ListN.{getD}
 use Rattle.bits.specs.Rows.{bytesAt}
-use Rattle.refusals.specs.declared.Refusal.the-variants.{NotAllowed}
 use Rattle.refusals.specs.declared.Answer.{Answer}
-use Rattle.refusals.specs.Outcomes.{unless, next}
+use Rattle.refusals.specs.Outcomes.{next}
 use Rattle.record_head.specs.Head.{recordHead}
 use Rattle.page.specs.Slots.{slotsOf}
 use Rattle.page.specs.Header.{configurationTested, headed}
-use Rattle.threshold_rows.specs.Rows.{onPage, rowsTested}
+use Rattle.threshold_rows.specs.Rows.{onPage, byteTested, rowsTested}
 
 -- 6: byte 1 is not zero; 6, 7, 8: the slots
 unfoldable pub bytesTested : List ℕ → List ℕ → ℕ → Answer
-bytesTested c p n = unless (eqb (getD p 1 0) 0) NotAllowed (rowsTested c p onPage n)
+bytesTested c p n = next (byteTested p) (rowsTested c p onPage n)
 
 -- 2 to 5: the header of a page of n slots; 6, 7, 8: its bytes
 unfoldable pub thresholdTested : List ℕ → List ℕ → ℕ → Answer

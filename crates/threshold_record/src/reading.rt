@@ -3,7 +3,6 @@ use page::header;
 use page::slots;
 use page::testing;
 use refusals::Answer;
-use refusals::Refusal;
 use refusals::Tested;
 use shelf::limits;
 use threshold_page_in::writing;
@@ -24,9 +23,10 @@ fn test_bytes(configuration: &[u8], page: &[u8], n: u16) -> Answer
     requires { ⌜ HasRows (now configuration) (now page) onPage n ⌝ }
     ensures { λ r. ⌜ r ≡ bytesTested (now (configuration .entry)) (now (page .entry)) n ⌝ }
 {
-    if bits::byte_at(page, 1) != 0 {
-        return Answer::Refused(Refusal::NotAllowed);
-    }
+    let byte = threshold_rows::test_byte(page);
+    let Answer::Accepted = byte else {
+        return byte;
+    };
     threshold_rows::test(configuration, page, threshold_rows::ON_PAGE, n)
 }
 

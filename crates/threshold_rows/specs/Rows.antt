@@ -10,9 +10,12 @@ use Rattle.element.specs.Types.{had, ordered}
 use Rattle.refusals.specs.declared.Refusal.the-variants.{NotAllowed, NoSuchThreshold, ThresholdOrder}
 use Rattle.refusals.specs.declared.Answer.{Answer}
 use Rattle.refusals.specs.declared.Answer.the-variants.{Accepted}
-use Rattle.refusals.specs.Outcomes.{unless}
+use Rattle.refusals.specs.Outcomes.{unless, next}
 use Rattle.shelf_formed.specs.Formed.{HasFront}
 use Rattle.page.specs.Slots.{slotsOf, slotAt}
+use Rattle.threshold_rows.specs.declared.Seen.{Seen}
+use Rattle.threshold_rows.specs.declared.Scanned.{Scanned}
+use Rattle.threshold_rows.specs.declared.Scanned.the-variants.{Rows, Offending}
 
 -- where the rows start
 abbrev pub onPage : ℕ
@@ -58,9 +61,29 @@ rowOrdered c b k i = ordered (slotAt c i .kind) (rowAt b k i)
 unfoldable pub allOrdered : List ℕ → List ℕ → ℕ → ℕ → Bool
 allOrdered c b k n = allBelow (rowOrdered c b k) n
 
--- 6: a byte of an overall row; 7: a byte that the row's type doesn't have; 8: the order. Each is tested of all rows before the next
+-- 6: byte 1 of a page of thresholds
+abbrev pub byteTested : List ℕ → Answer
+byteTested p = unless (eqb (getD p 1 0) 0) NotAllowed Accepted
+
+-- 6: a byte of an overall row
+abbrev pub overallTested : List ℕ → List ℕ → ℕ → ℕ → Answer
+overallTested c b k n = unless (eqb (offence c b k n) (rowPlace k n)) NotAllowed Accepted
+
+-- 7: a byte that the row's type doesn't have
+abbrev pub hadTested : List ℕ → List ℕ → ℕ → ℕ → Answer
+hadTested c b k n = unless (allHad c b k n) NoSuchThreshold Accepted
+
+-- 8: the order
+abbrev pub orderTested : List ℕ → List ℕ → ℕ → ℕ → Answer
+orderTested c b k n = unless (allOrdered c b k n) ThresholdOrder Accepted
+
+-- 6, 7, 8: each is tested of all rows before the next
 unfoldable pub rowsTested : List ℕ → List ℕ → ℕ → ℕ → Answer
-rowsTested c b k n =
-    unless (eqb (offence c b k n) (rowPlace k n)) NotAllowed
-    (unless (allHad c b k n) NoSuchThreshold
-    (unless (allOrdered c b k n) ThresholdOrder Accepted))
+rowsTested c b k n = next (overallTested c b k n) (next (hadTested c b k n) (orderTested c b k n))
+
+-- what one pass sees of them
+abbrev pub seen : List ℕ → List ℕ → ℕ → ℕ → Seen
+seen c b k n = record { had = allHad c b k n; ordered = allOrdered c b k n }
+
+unfoldable pub scanned : List ℕ → List ℕ → ℕ → ℕ → Scanned
+scanned c b k n = pick (eqb (offence c b k n) (rowPlace k n)) (Rows (seen c b k n)) Offending

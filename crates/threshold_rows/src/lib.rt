@@ -8,7 +8,10 @@ ghost use mathlib.Core.Path.{_≡_};
 ghost use Prim.Native.Nat.{_+_, _≤_};
 ghost use lib.ListN.{length};
 ghost use Rattle.bits.specs.Choice.{pick};
-ghost use Rattle.threshold_rows.specs.Rows.{rowPlace, rowAt, HasRows, firstSet, allHad, rowsTested};
+ghost use Rattle.refusals.specs.declared.Refusal.the-variants.{NoSuchThreshold, ThresholdOrder};
+ghost use Rattle.refusals.specs.declared.Answer.the-variants.{Accepted};
+ghost use Rattle.refusals.specs.Outcomes.{unless};
+ghost use Rattle.threshold_rows.specs.Rows.{rowPlace, rowAt, HasRows, firstSet, byteTested, hadTested, scanned, rowsTested};
 
 // Where the rows start.
 pub const ON_PAGE: u16 = 8;
@@ -52,9 +55,20 @@ fn row_offending(overall: bool, e: [u8; 4]) -> u8
     if overall { first_set(e) } else { 4 }
 }
 
-pub fn all_had(configuration: &[u8], block: &[u8], start: u16, n: u16) -> bool
+// Byte 1 of a page of thresholds.
+pub fn test_byte(page: &[u8]) -> Answer
+    requires { ⌜ 4 ≤ length (now page) ⌝ }
+    ensures { λ r. ⌜ r ≡ byteTested (now (page .entry)) ⌝ }
+{
+    if bits::byte_at(page, 1) != 0 {
+        return Answer::Refused(Refusal::NotAllowed);
+    }
+    Answer::Accepted
+}
+
+pub fn test_had(configuration: &[u8], block: &[u8], start: u16, n: u16) -> Answer
     requires { ⌜ HasRows (now configuration) (now block) start n ⌝ }
-    ensures { λ r. ⌜ r ≡ allHad (now (configuration .entry)) (now (block .entry)) start n ⌝ }
+    ensures { λ r. ⌜ r ≡ hadTested (now (configuration .entry)) (now (block .entry)) start n ⌝ }
 {
     let mut run = slots::first_run();
     let mut i: u16 = 0;
@@ -63,17 +77,48 @@ pub fn all_had(configuration: &[u8], block: &[u8], start: u16, n: u16) -> bool
         run = here;
         let kind = here.kind;
         if !element_thresholds::are_had(kind, row_at(block, start, i)) {
-            return false;
+            return Answer::Refused(Refusal::NoSuchThreshold);
         }
         i += 1;
     }
-    true
+    Answer::Accepted
 }
 
-// One pass over n rows. A refused byte of any is told before a threshold that a type does not have, and that before the order.
-pub fn test(configuration: &[u8], block: &[u8], start: u16, n: u16) -> Answer
+// What is seen of rows: whether each has only thresholds of its type, and in order.
+pub struct Seen {
+    pub had: bool,
+    pub ordered: bool,
+}
+
+// What one pass over rows comes to: a refused byte of an overall row, or what is seen of all.
+pub enum Scanned {
+    Rows(Seen),
+    Offending,
+}
+
+impl Seen {
+    fn test_had(self) -> Answer
+        ensures { λ r. ⌜ r ≡ unless (self .had) NoSuchThreshold Accepted ⌝ }
+    {
+        if !self.had {
+            return Answer::Refused(Refusal::NoSuchThreshold);
+        }
+        Answer::Accepted
+    }
+
+    fn test_order(self) -> Answer
+        ensures { λ r. ⌜ r ≡ unless (self .ordered) ThresholdOrder Accepted ⌝ }
+    {
+        if !self.ordered {
+            return Answer::Refused(Refusal::ThresholdOrder);
+        }
+        Answer::Accepted
+    }
+}
+
+fn scan(configuration: &[u8], block: &[u8], start: u16, n: u16) -> Scanned
     requires { ⌜ HasRows (now configuration) (now block) start n ⌝ }
-    ensures { λ r. ⌜ r ≡ rowsTested (now (configuration .entry)) (now (block .entry)) start n ⌝ }
+    ensures { λ r. ⌜ r ≡ scanned (now (configuration .entry)) (now (block .entry)) start n ⌝ }
 {
     let mut had = true;
     let mut ordered = true;
@@ -85,17 +130,27 @@ pub fn test(configuration: &[u8], block: &[u8], start: u16, n: u16) -> Answer
         let kind = here.kind;
         let e = row_at(block, start, i);
         if row_offending(here.overall, e) < 4 {
-            return Answer::Refused(Refusal::NotAllowed);
+            return Scanned::Offending;
         }
         had = had & element_thresholds::are_had(kind, e);
         ordered = ordered & element_thresholds::are_ordered(kind, e);
         i += 1;
     }
-    if !had {
-        return Answer::Refused(Refusal::NoSuchThreshold);
-    }
-    if !ordered {
-        return Answer::Refused(Refusal::ThresholdOrder);
-    }
-    Answer::Accepted
+    Scanned::Rows(Seen { had, ordered })
+}
+
+// A refused byte of any row is told before a threshold that a type does not have, and that before the order.
+pub fn test(configuration: &[u8], block: &[u8], start: u16, n: u16) -> Answer
+    requires { ⌜ HasRows (now configuration) (now block) start n ⌝ }
+    ensures { λ r. ⌜ r ≡ rowsTested (now (configuration .entry)) (now (block .entry)) start n ⌝ }
+{
+    let scanned = scan(configuration, block, start, n);
+    let Scanned::Rows(seen) = scanned else {
+        return Answer::Refused(Refusal::NotAllowed);
+    };
+    let had = seen.test_had();
+    let Answer::Accepted = had else {
+        return had;
+    };
+    seen.test_order()
 }

@@ -1,41 +1,36 @@
 -- `status_rewritten::test_entries` meets its contract. Assumes nothing.
 use native.Mathlib.Omega.{arith}
 use denote.Ref.{now}
-use borrow.Author.Tests.{not-true, not-false}
 use Rattle.page.proofs.SlotBounds.{slots-bound}
-use Rattle.status_rewritten.proofs.Refusals.{other-count, other-bits, other-fields, entries-passed}
+use Rattle.status_rewritten.proofs.Refusals.{other-count, other-bits, fields-last}
 use borrow.Author.Needs.{needs}
 use Rattle.status_rewritten.proofs.test_entries.Statement.{statement}
 use Rattle.status_rewritten.proofs.test_entries.Tie as tie
 
 returns : tie.Need-returns
-returns c = let s = c .before .before .before .before .before .args in other-count (now (s .configuration)) (now (s .fields)) (s .n) (c .before .before .test-count .ensures) (c .enum-told2 .given .1)
+returns c =
+    let s = c .before .before .before .before .before .args in
+    other-count (now (s .configuration)) (now (s .fields)) (s .n) (c .before .before .test-count .ensures) (c .enum-told2 .given .1)
 
 returns-2 : tie.Need-returns-2
 returns-2 c =
-    let s = c .before .before .before .before .before .before .before .before .args in
-    other-bits (now (s .configuration)) (now (s .fields)) (s .n) (c .before .before .before .before .before .test-count .ensures)
-    (c .before .before .before .enum-told .given .1) (c .before .bits-formed .ensures) (not-true _ (c .if1 .taken))
+    let a = c .before .before .before in
+    let s = a .before .before .before .before .before .args in
+    other-bits (now (s .configuration)) (now (s .fields)) (s .n) (a .before .before .test-count .ensures) (a .enum-told .given .1)
+    (c .before .before .test-bits .ensures) (c .enum-told4 .given .1)
 
-entries-formed-requires : tie.Need-entries-formed-requires
-entries-formed-requires c κs =
-    let p = c .before .before .before .before .before .before .before .before .before .pre in
-    let b = slots-bound (now (c .before .before .before .before .before .before .before .before .before .args .configuration)) (p .0 .0) in
-    (p .0, (omega (arith, p .1), omega (arith, p .1, b)))
+test-fields-requires : tie.Need-test-fields-requires
+test-fields-requires c κs =
+    let q = c .before .before .before .before .before .before .before .before .before in
+    let b = slots-bound (now (q .args .configuration)) (q .pre .0 .0) in
+    (q .pre .0, (omega (arith, q .pre .1), omega (arith, q .pre .1, b)))
 
 returns-3 : tie.Need-returns-3
 returns-3 c =
-    let s = c .before .before .before .before .before .before .before .before .before .before .before .args in
-    other-fields (now (s .configuration)) (now (s .fields)) (s .n) (c .before .before .before .before .before .before .before .before .test-count .ensures)
-    (c .before .before .before .before .before .before .enum-told .given .1) (c .before .before .before .before .bits-formed .ensures)
-    (not-false _ (c .before .before .before .if1 .left)) (c .before .entries-formed .ensures) (not-true _ (c .if2 .taken))
-
-returns-4 : tie.Need-returns-4
-returns-4 c =
-    let s = c .before .before .before .before .before .before .before .before .before .before .before .args in
-    entries-passed (now (s .configuration)) (now (s .fields)) (s .n) (c .before .before .before .before .before .before .before .before .test-count .ensures)
-    (c .before .before .before .before .before .before .enum-told .given .1) (c .before .before .before .before .bits-formed .ensures)
-    (not-false _ (c .before .before .before .if1 .left)) (c .before .entries-formed .ensures) (not-false _ (c .if2 .left))
+    let a = c .before .before .before .before .before in
+    let s = a .before .before .before .before .before .args in
+    fields-last (now (s .configuration)) (now (s .fields)) (s .n) (a .before .before .test-count .ensures) (a .enum-told .given .1)
+    (c .before .before .before .before .test-bits .ensures) (c .before .before .enum-told3 .given .1) (c .test-fields .ensures)
 
 pub test-entries-spec : {M : Type 1} → statement M
 test-entries-spec =
@@ -43,8 +38,7 @@ test-entries-spec =
     (tie.spec
     (λ c κs. search needs) (λ c. search needs) (λ c. search needs)
     returns
-    (λ c κs. search needs)
+    (λ c κs. search needs) (λ c. search needs) (λ c. search needs)
     returns-2
-    entries-formed-requires
-    returns-3
-    returns-4)
+    test-fields-requires
+    returns-3)

@@ -1,120 +1,36 @@
 -- `threshold_rows::test` meets its contract. Assumes nothing.
-use mathlib.Core.Path.{_≡_, refl, ap}
-use mathlib.Core.Bool.{true, not}
-use Prim.Native.Nat.{_-_, _≤_}
-use native.Mathlib.Omega.{arith}
 use denote.Ref.{now}
+use Rattle.threshold_rows.proofs.RowTests.{overall-refused, not-had, order-last}
 use borrow.Author.Needs.{needs}
-use borrow.Author.Tests.{le-ltb, not-true, not-false}
-use Rattle.bits.specs.Choice.{allBelow, refusedIn}
-use Rattle.bits.proofs.Logic.{fails, below-next}
-use Rattle.page.specs.Slots.{slotCarried}
-use Rattle.page.proofs.SlotWalk.{walk-on}
-use Rattle.threshold_rows.specs.Rows.{rowOffending, rowHad, rowOrdered}
-use Rattle.threshold_rows.proofs.Loops.{row-offends, row-had, row-ordered, and-next}
-use Rattle.threshold_rows.proofs.RowTests.{refused-row, not-had, not-ordered, rows-passed}
 use Rattle.threshold_rows.proofs.test.Statement.{statement}
 use Rattle.threshold_rows.proofs.test.Tie as tie
 
-abbrev Inv-loop : tie.InvT-loop
-Inv-loop configuration block start n had₀ ordered₀ run₀ i₀ had ordered run i = (i ≤ n) × (run ≡ slotCarried configuration i) × (allBelow (fails (refusedIn (rowOffending configuration block start))) i ≡ true) × (had ≡ allBelow (rowHad configuration block start) i) × (ordered ≡ allBelow (rowOrdered configuration block start) i)
-
-abbrev μ-loop : tie.MeasureT-loop
-μ-loop configuration block start n had₀ ordered₀ run₀ i₀ had ordered run i = n - i
-
-first-run-requires : tie.Need-first-run-requires Inv-loop μ-loop
-first-run-requires c κs = search needs
-
-loop-holds : tie.Need-loop-holds Inv-loop μ-loop
-loop-holds c = (omega arith, c .first-run .ensures, refl, refl, refl)
-
-run-to-requires : tie.Need-run-to-requires Inv-loop μ-loop
-run-to-requires c κs = let q = c .before .before .before .before .before in (q .pre .0, (omega (arith, q .pre .1, c .loop-test .taken), c .before .loop .inv .1))
-
-row-at-requires : tie.Need-row-at-requires Inv-loop μ-loop
-row-at-requires c κs = search needs
-
-row-offending-requires : tie.Need-row-offending-requires Inv-loop μ-loop
-row-offending-requires c κs = search needs
-
-returns : tie.Need-returns Inv-loop μ-loop
+returns : tie.Need-returns
 returns c =
-    let s = c .before .before .before .before .before .before .before .before .before .args in
-    let l = c .before .before .before .before .before .loop in
-    let h = row-offends (now (s .configuration)) (now (s .block)) (s .start) (l .i) (c .before .before .before .run-to .ensures)
-    (c .before .before .row-at .ensures) (c .before .row-offending .ensures) in
-    refused-row (now (s .configuration)) (now (s .block)) (s .start) (s .n) (l .i) (c .before .before .before .before .loop-test .taken) (l .inv .2) h
-    (c .if1 .taken)
+    let s = c .before .before .before .before .before .args in
+    overall-refused (now (s .configuration)) (now (s .block)) (s .start) (s .n) (c .before .before .scan .ensures) (c .enum-told .given .1)
 
-are-had-requires : tie.Need-are-had-requires Inv-loop μ-loop
-are-had-requires c κs = search needs
-
-are-ordered-requires : tie.Need-are-ordered-requires Inv-loop μ-loop
-are-ordered-requires c κs = search needs
-
-add-i : tie.Need-add-i Inv-loop μ-loop
-add-i c = omega arith
-
-loop-less : tie.Need-loop-less Inv-loop μ-loop
-loop-less c = omega arith
-
-loop-again : tie.Need-loop-again Inv-loop μ-loop
-loop-again c =
-    let s = c .before .before .before .before .before .before .before .before .before .before .before .args in
-    let x = now (s .configuration) in
-    let b = now (s .block) in
-    let l = c .before .before .before .before .before .before .before .loop in
-    let r = c .before .before .before .before .before .run-to .ensures in
-    let e = c .before .before .before .before .row-at .ensures in
-    let k = row-offends x b (s .start) (l .i) r e (c .before .before .before .row-offending .ensures) in (
-      omega arith,
-      walk-on x (l .i) r,
-      below-next (fails (refusedIn (rowOffending x b (s .start)))) (l .i) (l .inv .2) (ap not (le-ltb (rowOffending x b (s .start) (l .i)) 4 (rw k at (c .before .before .if1 .left)))),
-      and-next (rowHad x b (s .start)) (l .i) (l .inv .3) (row-had x b (s .start) (l .i) r e (c .before .are-had .ensures)),
-      and-next (rowOrdered x b (s .start)) (l .i) (l .inv .4) (row-ordered x b (s .start) (l .i) r e (c .are-ordered .ensures)),
-    )
-
-returns-2 : tie.Need-returns-2 Inv-loop μ-loop
+returns-2 : tie.Need-returns-2
 returns-2 c =
-    let s = c .before .before .before .before .before .before .args in
-    let l = c .before .before .loop in
-    let e : l .i ≡ s .n = omega arith in
-    not-had (now (s .configuration)) (now (s .block)) (s .start) (s .n) (rw e at (l .inv .2)) (rw e at (l .inv .3)) (rw e at (l .inv .4))
-    (not-true _ (c .if2 .taken))
+    let a = c .before .before .before .before in
+    let s = a .before .before .before .before .before .args in
+    not-had (now (s .configuration)) (now (s .block)) (s .start) (s .n) (a .before .before .scan .ensures) (a .scanned .given .1)
+    (c .before .before .test-had .ensures) (c .enum-told3 .given .1)
 
-returns-3 : tie.Need-returns-3 Inv-loop μ-loop
+returns-3 : tie.Need-returns-3
 returns-3 c =
-    let s = c .before .before .before .before .before .before .before .args in
-    let l = c .before .before .before .loop in
-    let e : l .i ≡ s .n = omega arith in
-    not-ordered (now (s .configuration)) (now (s .block)) (s .start) (s .n) (rw e at (l .inv .2)) (rw e at (l .inv .3)) (rw e at (l .inv .4))
-    (not-false _ (c .before .if2 .left)) (not-true _ (c .if3 .taken))
-
-returns-4 : tie.Need-returns-4 Inv-loop μ-loop
-returns-4 c =
-    let s = c .before .before .before .before .before .before .before .args in
-    let l = c .before .before .before .loop in
-    let e : l .i ≡ s .n = omega arith in
-    rows-passed (now (s .configuration)) (now (s .block)) (s .start) (s .n) (rw e at (l .inv .2)) (rw e at (l .inv .3)) (rw e at (l .inv .4))
-    (not-false _ (c .before .if2 .left)) (not-false _ (c .if3 .left))
+    let a = c .before .before .before .before .before in
+    let s = a .before .before .before .before .before .args in
+    order-last (now (s .configuration)) (now (s .block)) (s .start) (s .n) (a .before .before .scan .ensures) (a .scanned .given .1)
+    (c .before .before .before .test-had .ensures) (c .before .enum-told2 .given .1) (c .test-order .ensures)
 
 pub test-spec : {M : Type 1} → statement M
 test-spec =
     tie.close
     (tie.spec
-    Inv-loop
-    μ-loop
-    first-run-requires
-    loop-holds
-    run-to-requires
-    row-at-requires
-    row-offending-requires
+    (λ c κs. search needs) (λ c. search needs) (λ c. search needs)
     returns
-    are-had-requires
-    are-ordered-requires
-    add-i
-    loop-less
-    loop-again
+    (λ c κs. search needs) (λ c. search needs) (λ c. search needs)
     returns-2
-    returns-3
-    returns-4)
+    (λ c κs. search needs)
+    returns-3)

@@ -1,35 +1,48 @@
 -- `page::header::test_frame` meets its contract. Assumes nothing.
-use mathlib.Core.Path.{sym, _∙_}
 use denote.Ref.{now}
-use borrow.Author.Tests.{le-leb, lt-leb, eq-eqb, ne-eqb, not-true, not-false}
-use Rattle.page.proofs.HeaderTests.{too-short, other-code, other-length, frame-passed}
+use Rattle.page.proofs.HeaderTests.{too-short, has-frame, other-code, said-last}
 use borrow.Author.Needs.{needs}
 use Rattle.page.proofs.header.test_frame.Statement.{statement}
 use Rattle.page.proofs.header.test_frame.Tie as tie
 
 returns : tie.Need-returns
-returns c = let s = c .before .before .args in too-short (now (s .page)) (s .code) (lt-leb 4 _ (c .if1 .taken))
+returns c =
+    let s = c .before .before .before .before .args in
+    too-short (now (s .page)) (s .code) (c .before .before .test-size .ensures) (c .enum-told2 .given .1)
+
+test-code-requires : tie.Need-test-code-requires
+test-code-requires c κs =
+    let s = c .before .before .before .before .args in
+    has-frame (now (s .page)) (s .code) (c .before .before .test-size .ensures) (c .enum-told .given .1)
 
 returns-2 : tie.Need-returns-2
 returns-2 c =
-    let s = c .before .before .before .before .args in
-    let e1 = le-leb 4 _ (c .before .before .if1 .left) in
-    other-code (now (s .page)) (s .code) e1 (ne-eqb _ (s .code) (λ e. c .if2 .taken (c .before .byte-at .ensures ∙ e)))
+    let a = c .before .before .before in
+    let s = a .before .before .before .before .args in
+    other-code (now (s .page)) (s .code) (a .before .before .test-size .ensures) (a .enum-told .given .1) (c .before .before .test-code .ensures)
+    (c .enum-told4 .given .1)
+
+test-said-requires : tie.Need-test-said-requires
+test-said-requires c κs =
+    let a = c .before .before .before in
+    let s = a .before .before .before .before .args in
+    has-frame (now (s .page)) (s .code) (a .before .before .test-size .ensures) (a .enum-told .given .1)
 
 returns-3 : tie.Need-returns-3
 returns-3 c =
-    let s = c .before .before .before .before .before .before .args in
-    let e1 = le-leb 4 _ (c .before .before .before .before .if1 .left) in
-    let e2 = eq-eqb _ (s .code) (sym (c .before .before .before .byte-at .ensures) ∙ c .before .before .if2 .left) in
-    other-length (now (s .page)) (s .code) e1 e2 (sym (c .before .says-its-length .ensures) ∙ not-true _ (c .if3 .taken))
-
-returns-4 : tie.Need-returns-4
-returns-4 c =
-    let s = c .before .before .before .before .before .before .args in
-    let e1 = le-leb 4 _ (c .before .before .before .before .if1 .left) in
-    let e2 = eq-eqb _ (s .code) (sym (c .before .before .before .byte-at .ensures) ∙ c .before .before .if2 .left) in
-    frame-passed (now (s .page)) (s .code) e1 e2 (sym (c .before .says-its-length .ensures) ∙ not-false _ (c .if3 .left))
+    let a = c .before .before .before .before in
+    let s = a .before .before .before .before .args in
+    said-last (now (s .page)) (s .code) (a .before .before .test-size .ensures) (a .enum-told .given .1) (c .before .before .before .test-code .ensures)
+    (c .before .enum-told3 .given .1) (c .test-said .ensures)
 
 pub test-frame-spec : {M : Type 1} → statement M
 test-frame-spec =
-    tie.close (tie.spec returns (λ c κs. search needs) returns-2 (λ c κs. search needs) returns-3 returns-4)
+    tie.close
+    (tie.spec
+    (λ c κs. search needs) (λ c. search needs) (λ c. search needs)
+    returns
+    test-code-requires
+    (λ c. search needs) (λ c. search needs)
+    returns-2
+    test-said-requires
+    returns-3)

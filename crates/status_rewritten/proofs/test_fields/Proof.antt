@@ -1,4 +1,4 @@
--- `status_rewritten::entries_formed` meets its contract. Assumes nothing.
+-- `status_rewritten::test_fields` meets its contract. Assumes nothing.
 use mathlib.Core.Path.{_≡_, refl, sym, _∙_}
 use Prim.Native.Nat.{_-_, _≤_}
 use native.Mathlib.Omega.{arith}
@@ -7,13 +7,13 @@ use borrow.Author.Needs.{needs}
 use mathlib.Core.Bool.{true}
 use borrow.Author.Tests.{not-true, not-false}
 use Rattle.bits.specs.Choice.{allBelow}
-use Rattle.bits.proofs.Logic.{below-fails, below-next}
+use Rattle.bits.proofs.Logic.{pick-yes, pick-no, below-fails, below-next}
 use Rattle.page.specs.Slots.{slotCarried}
 use Rattle.page.proofs.SlotWalk.{run-stands, slot-walked, walk-on}
 use Rattle.status_rewritten.specs.Rewritten.{entryFormed, entriesFormed}
 use Rattle.status_rewritten.proofs.Refusals.{entry-tested}
-use Rattle.status_rewritten.proofs.entries_formed.Statement.{statement}
-use Rattle.status_rewritten.proofs.entries_formed.Tie as tie
+use Rattle.status_rewritten.proofs.test_fields.Statement.{statement}
+use Rattle.status_rewritten.proofs.test_fields.Tie as tie
 
 abbrev Inv-loop : tie.InvT-loop
 Inv-loop configuration fields n run₀ i₀ run i = (i ≤ n) × (run ≡ slotCarried configuration i) × (allBelow (entryFormed configuration fields) i ≡ true)
@@ -45,7 +45,7 @@ returns c =
     let i = c .before .before .before .before .before .loop .i in
     let slot = slot-walked s i (c .before .before .before .run-to .ensures) (c .before .before .slot-in .ensures) in
     let e = entry-tested s f i slot (c .before .entry-formed .ensures) in
-    sym (below-fails (entryFormed s f) (q .n) i (c .before .before .before .before .loop-test .taken) (sym e ∙ not-true _ (c .if1 .taken)))
+    sym (pick-no _ _ _ (below-fails (entryFormed s f) (q .n) i (c .before .before .before .before .loop-test .taken) (sym e ∙ not-true _ (c .if1 .taken))))
 
 add-i : tie.Need-add-i Inv-loop μ-loop
 add-i c = omega arith
@@ -65,10 +65,13 @@ loop-again c =
 
 returns-2 : tie.Need-returns-2 Inv-loop μ-loop
 unfolding entriesFormed
-returns-2 c = let s = c .before .before .before .before .before .args in let l = c .before .loop in let e : l .i ≡ s .n = omega arith in sym (rw e at (l .inv .2))
+returns-2 c =
+    let l = c .before .loop in
+    let e : l .i ≡ c .before .before .before .before .before .args .n = omega arith in
+    sym (pick-yes _ _ _ (rw e at (l .inv .2)))
 
-pub entries-formed-spec : {M : Type 1} → statement M
-entries-formed-spec =
+pub test-fields-spec : {M : Type 1} → statement M
+test-fields-spec =
     tie.close
     (tie.spec
     Inv-loop

@@ -1,4 +1,4 @@
--- `threshold_rows::all_had` meets its contract. Assumes nothing.
+-- `threshold_rows::test_had` meets its contract. Assumes nothing.
 use mathlib.Core.Path.{_≡_, refl, sym, _∙_}
 use mathlib.Core.Bool.{true}
 use Prim.Native.Nat.{_-_, _≤_}
@@ -7,13 +7,13 @@ use denote.Ref.{now}
 use borrow.Author.Needs.{needs}
 use borrow.Author.Tests.{not-true, not-false}
 use Rattle.bits.specs.Choice.{allBelow}
-use Rattle.bits.proofs.Logic.{below-fails, below-next}
+use Rattle.bits.proofs.Logic.{pick-yes, pick-no, below-fails, below-next}
 use Rattle.page.specs.Slots.{slotCarried}
 use Rattle.page.proofs.SlotWalk.{walk-on}
 use Rattle.threshold_rows.proofs.Loops.{row-had}
 use Rattle.threshold_rows.specs.Rows.{rowHad, allHad}
-use Rattle.threshold_rows.proofs.all_had.Statement.{statement}
-use Rattle.threshold_rows.proofs.all_had.Tie as tie
+use Rattle.threshold_rows.proofs.test_had.Statement.{statement}
+use Rattle.threshold_rows.proofs.test_had.Tie as tie
 
 abbrev Inv-loop : tie.InvT-loop
 Inv-loop configuration block start n run₀ i₀ run i = (i ≤ n) × (run ≡ slotCarried configuration i) × (allBelow (rowHad configuration block start) i ≡ true)
@@ -44,7 +44,8 @@ returns c =
     let h = row-had (now (s .configuration)) (now (s .block)) (s .start) (l .i) (c .before .before .before .run-to .ensures)
     (c .before .before .row-at .ensures) (c .before .are-had .ensures) in
     sym
-    (below-fails (rowHad (now (s .configuration)) (now (s .block)) (s .start)) (s .n) (l .i) (c .before .before .before .before .loop-test .taken) (sym h ∙ not-true _ (c .if1 .taken)))
+    (pick-no _ _ _
+    (below-fails (rowHad (now (s .configuration)) (now (s .block)) (s .start)) (s .n) (l .i) (c .before .before .before .before .loop-test .taken) (sym h ∙ not-true _ (c .if1 .taken))))
 
 add-i : tie.Need-add-i Inv-loop μ-loop
 add-i c = omega arith
@@ -66,10 +67,13 @@ loop-again c =
 
 returns-2 : tie.Need-returns-2 Inv-loop μ-loop
 unfolding allHad
-returns-2 c = let l = c .before .loop in let e : l .i ≡ c .before .before .before .before .before .args .n = omega arith in sym (rw e at (l .inv .2))
+returns-2 c =
+    let l = c .before .loop in
+    let e : l .i ≡ c .before .before .before .before .before .args .n = omega arith in
+    sym (pick-yes _ _ _ (rw e at (l .inv .2)))
 
-pub all-had-spec : {M : Type 1} → statement M
-all-had-spec =
+pub test-had-spec : {M : Type 1} → statement M
+test-had-spec =
     tie.close
     (tie.spec
     Inv-loop

@@ -1,4 +1,4 @@
--- `threshold_page_out::testing::all_ordered` meets its contract. Assumes nothing.
+-- `threshold_page_out::testing::test_order` meets its contract. Assumes nothing.
 use mathlib.Core.Path.{_≡_, refl, sym, _∙_}
 use mathlib.Core.Bool.{true}
 use Prim.Native.Nat.{_-_, _<_, _≤_}
@@ -12,9 +12,9 @@ use Rattle.shelf.proofs.TypeRuns.{run-on, run-small}
 use Rattle.page.proofs.ElementSlots.{front-there, element-there}
 use Rattle.page.proofs.SlotWalk.{places-run}
 use Rattle.threshold_page_out.specs.Tests.{elementOrdered}
-use Rattle.threshold_page_out.proofs.Tests.{not-ordered, each-ordered}
-use Rattle.threshold_page_out.proofs.testing.all_ordered.Statement.{statement}
-use Rattle.threshold_page_out.proofs.testing.all_ordered.Tie as tie
+use Rattle.threshold_page_out.proofs.Tests.{order-refused, each-ordered}
+use Rattle.threshold_page_out.proofs.testing.test_order.Statement.{statement}
+use Rattle.threshold_page_out.proofs.testing.test_order.Tie as tie
 
 abbrev Inv-loop : tie.InvT-loop
 Inv-loop shelf page n run₀ j₀ run j = (j ≤ n) × (run ≡ carried shelf j) × (allBelow (elementOrdered shelf page) j ≡ true)
@@ -57,7 +57,7 @@ returns : tie.Need-returns Inv-loop μ-loop
 returns c =
     let s = c .before .before .before .before .before .before .before .before .before .before .args in
     let l = c .before .before .before .before .before .loop in
-    not-ordered (now (s .shelf)) (now (s .page)) (l .j) (c .before .before .before .before .before .before .before .all-elements .ensures)
+    order-refused (now (s .shelf)) (now (s .page)) (l .j) (c .before .before .before .before .before .before .before .all-elements .ensures)
     (c .before .before .before .before .loop-test .taken) (sym (c .before .element-ordered .ensures) ∙ not-true _ (c .if1 .taken))
 
 add-j : tie.Need-add-j Inv-loop μ-loop
@@ -82,8 +82,8 @@ returns-2 c =
     let e : l .j ≡ c .before .before .before .all-elements .result = omega arith in
     each-ordered (now (s .shelf)) (now (s .page)) (l .j) (c .before .before .before .all-elements .ensures) e (l .inv .2)
 
-pub all-ordered-spec : {M : Type 1} → statement M
-all-ordered-spec =
+pub test-order-spec : {M : Type 1} → statement M
+test-order-spec =
     tie.close
     (tie.spec
     Inv-loop

@@ -44,6 +44,13 @@ use Rattle.build_page.proofs.FirstSlots.{brought, needed-upto}
 use Rattle.build_page.proofs.BestPage.{only-one}
 use Rattle.build_page.proofs.PromiseKept.{no-page, best-page}
 
+-- a well-formed shelf takes a wish with a record for each element that its type may have
+pub wish-taken : (s w : List ℕ) → wellFormed s ≡ true → length w ≡ 4 * elementsOf s → allBelow (mayBe s w) (elementsOf s) ≡ true → wishTested s w ≡ answer.Accepted
+unfolding wishTested
+wish-taken s w f l m =
+    let e : eqb (length w) (4 * elementsOf s) ≡ true = eq-eqb _ _ l in
+    rw (f, e, m)
+
 -- a wish that some page reaches passes the tests
 module _ (s w q : List ℕ) (r : Reaching s w q) where
   formed : wellFormed s ≡ true
@@ -62,10 +69,7 @@ module _ (s w q : List ℕ) (r : Reaching s w q) where
   all-may-be = below-all (mayBe s w) (elementsOf s) (λ j l. ap (settingsFormed (kindAt s j)) (sym (brought s w q (r .2) j l)) ∙ formed-after j l)
 
   pub wish-passes : wishTested s w ≡ answer.Accepted
-  unfolding wishTested
-  wish-passes =
-      let e : eqb (length w) (4 * elementsOf s) ≡ true = eq-eqb _ _ as-long in
-      rw (formed, e, all-may-be)
+  wish-passes = wish-taken s w formed as-long all-may-be
 
   -- a page that reaches it has the SELECTs that each type needs with the overall element that the page has for it
   pub selects-needed : sumBelow (λ t. cost (searchIn s w t) (fourAt q (slotPlace (startOf s t)))) (typesOf s) ≤ selectsOn s q

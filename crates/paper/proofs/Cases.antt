@@ -7,7 +7,7 @@ use Prim.Native.Nat.{ℕ, _+_, _*_, _<_, _≤_}
 use native.Mathlib.Omega.{arith}
 use lib.Dec.{eqb, ltb}
 use lib.ListN.{length, getD}
-use borrow.Author.Tests.{ltb-true}
+use borrow.Author.Tests.{eqb-true, ltb-true}
 use Rattle.bits.specs.Numbers.{Bytes}
 use Rattle.bits.specs.Choice.{firstOf, allBelow}
 use Rattle.bits.specs.Bits.{num}
@@ -36,7 +36,6 @@ use Rattle.status_page.specs.Page.{slotBytes, pageWith, statusPage, shownIn}
 use Rattle.refusals.specs.declared.Refusal.the-variants.{Unreachable}
 use Rattle.refusals.specs.declared.Answer.the-variants.{Accepted}
 use Rattle.refusals.specs.Numbers.{numberOf}
-use Rattle.refusals.specs.Outcomes.{next, accepts}
 use Rattle.build_order.specs.Search.{cost, better, best}
 use Rattle.build_element.specs.Wishes.{inReach, alike, requestBytes, own, brings, one}
 use Rattle.build_element.specs.Parts.{tried, tries}
@@ -45,7 +44,7 @@ use Rattle.build_page.specs.Promise.{mayBe, wishTested, selectsOn, Reaching}
 use Rattle.build_page.specs.Page.{searchIn, overallIn, rowUnder, rowFor, selectsFor, controlPage, reachable}
 use Rattle.build_page.proofs.FirstPage.{made-selects}
 use Rattle.build_page.proofs.PromiseKept.{none-reaches, page-promised}
-use Rattle.build_page.proofs.PromiseLaws.{selects-needed}
+use Rattle.build_page.proofs.PromiseLaws.{wish-taken, selects-needed}
 use Rattle.paper.specs.Table.{Case, shows, judges, tells, builds, reaches, refuses, limits, none, typesA, shelfA, OfA, HasStatus, Gets, ReachedBy, RefusedBy, Holds, AllHold, table}
 use Rattle.paper.specs.Errors.{errors}
 
@@ -62,15 +61,12 @@ are-bytes (b ∷ bs) t = (ltb-true b 256 (and-left _ _ t), are-bytes bs (and-rig
 abbrev anyA : List ℕ → List ℕ → List ℕ
 anyA i f = shelfA (bytesAt i 0 36) f
 
--- what is left of the tests of a shelf, of a wish and of a page where the front is well formed, which is tested once and not in each case
+-- what is left of the tests of a shelf and of a wish where the front is well formed, which is tested once and not in each case
 abbrev shelfRest : List ℕ → Bool
 shelfRest s = eqb (length s) (elementPlace (elementsOf s)) && elementsFormed s (elementsOf s)
 
 abbrev wishRest : List ℕ → List ℕ → Bool
 wishRest s w = eqb (length w) (4 * elementsOf s) && allBelow (mayBe s w) (elementsOf s)
-
-abbrev pageRest : List ℕ → List ℕ → Bool
-pageRest s p = accepts (next (headed s p 0x02 (slotsOf s)) (bytesTested s p (slotsOf s)))
 
 -- the page that is made, where o is the overall element of its one type: so that is searched once, and not for each slot
 abbrev pageUnder : List ℕ → List ℕ → List ℕ → List ℕ
@@ -89,7 +85,7 @@ given i (builds f w p n) =
     ∷ []
 given i (reaches f w p n) =
     let s = anyA i f in
-    (num (shelfRest s) ∷ num (pageRest s p) ∷ num (allBytes p) ∷ selectsOn s p ∷ cost (searchIn s w 0) (fourAt p (slotPlace 0)) ∷ [])
+    (num (allBytes p) ∷ num (valid s p) ∷ selectsOn s p ∷ cost (searchIn s w 0) (fourAt p (slotPlace 0)) ∷ [])
     ∷ broughtTo s p
     ∷ []
 given i (refuses f w n) =
@@ -102,7 +98,7 @@ told (shows k s r n t b) = b ∷ []
 told (judges k r n t v) = v ∷ []
 told (tells f p) = (1 ∷ []) ∷ p ∷ []
 told (builds f w p n) = (1 ∷ 1 ∷ 1 ∷ 1 ∷ 1 ∷ n ∷ []) ∷ fourAt p (slotPlace 0) ∷ p ∷ []
-told (reaches f w p n) = (1 ∷ 1 ∷ 1 ∷ n ∷ n ∷ []) ∷ w ∷ []
+told (reaches f w p n) = (1 ∷ 1 ∷ n ∷ n ∷ []) ∷ w ∷ []
 told (refuses f w n) = (1 ∷ 1 ∷ 0 ∷ n ∷ []) ∷ []
 
 yes : (b : Bool) → num b ≡ 1 → b ≡ true
@@ -142,11 +138,7 @@ module _ (i f : List ℕ) where
 
   module _ (w : List ℕ) where
     taken : shelfRest s ≡ true → wishRest s w ≡ true → wishTested s w ≡ Accepted
-    unfolding wishTested
-    taken t u =
-        let long : eqb (length w) (4 * elementsOf s) ≡ true = and-left _ _ u in
-        let may-be : allBelow (mayBe s w) (elementsOf s) ≡ true = and-right (eqb (length w) (4 * elementsOf s)) _ u in
-        rw (formed t, long, may-be)
+    taken t u = wish-taken s w (formed t) (eqb-true _ _ (and-left _ _ u)) (and-right (eqb (length w) (4 * elementsOf s)) _ u)
 
     made : controlPage s w ≡ pageUnder s w (overallIn s w 0)
     unfolding controlPage rowFor slotsOf elementsOf slotType startOf before bytesAt
@@ -177,13 +169,10 @@ module _ (i f : List ℕ) where
     reached : (p : List ℕ) (n : ℕ) → given i (reaches f w p n) ≡ told (reaches f w p n) → ReachedBy w p n s
     unfolding given told
     reached p n e = (
-      (are-bytes p (yes (allBytes p) (number 2 e)), accepted-page, list 1 e),
-      number 3 e,
-      (λ q r o. let c = ap (cost (searchIn s w 0)) o ∙ number 4 e in omega (arith, c, needed q r)),
+      (are-bytes p (yes (allBytes p) (number 0 e)), yes (valid s p) (number 1 e), list 1 e),
+      number 2 e,
+      (λ q r o. let c = ap (cost (searchIn s w 0)) o ∙ number 3 e in omega (arith, c, needed q r)),
     )
-      where
-        accepted-page : valid s p ≡ true
-        accepted-page = unfold valid controlTested pageTested in rw (formed (yes (shelfRest s) (number 0 e))) (yes (pageRest s p) (number 1 e))
 
     refused : (n : ℕ) → given i (refuses f w n) ≡ told (refuses f w n) → RefusedBy w n s
     unfolding given told
@@ -229,7 +218,8 @@ unfolding settingsOf settingsBytes controlOf reservedIn offending chosen settled
     readingAllowed nominalAllowed settingsFormed had ordered before elementsOf typeOf kindAt settingsAt thresholdsAt readingAt nominalAt spareAt
     spareClear elementFormed elementsFormed slotsOf startOf slotType isOverall slotAt header shownAt verdictAt codeAt worst shownIn pageBits
     slotBytes pageWith statusPage firstOf lengthSaid framed lengthTested generationTested headed placesOf slotOffending offence bytesTested
-    settingsAfter broughtTo inReach alike requestBytes own brings one tried tries cost better best overallIn rowUnder reachable bytesAt given told
+    settingsAfter broughtTo inReach alike requestBytes own brings one tried tries cost better best overallIn rowUnder reachable bytesAt served
+    wellFormed frontFormed headFormed textFormed typeFormed typeEmpty slotFormed typesFormed pageTested controlTested valid given told
 computed i = (
   refl also refl also refl also refl also refl also refl also refl also refl also refl also refl also refl also refl
       also refl also refl also refl also refl also refl also refl also refl also refl also refl also refl also refl also refl

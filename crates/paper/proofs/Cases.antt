@@ -27,7 +27,7 @@ use Rattle.shelf.specs.Types.{before, elementsOf, typeOf, kindAt}
 use Rattle.shelf.specs.Elements.{settingsAt, thresholdsAt, readingAt, nominalAt, spareAt}
 use Rattle.shelf_formed.specs.Formed.{headFormed, textFormed, typeFormed, typeEmpty, slotFormed, typesFormed, spareClear, elementFormed, elementsFormed, frontFormed, wellFormed}
 use Rattle.page.specs.Slots.{slotsOf, startOf, slotType, isOverall, slotAt, slotPlace}
-use Rattle.page.specs.Header.{lengthSaid, framed, lengthTested, generationTested, headed, pageTested, header}
+use Rattle.page.specs.Header.{lengthSaid, sizeTested, codeTested, saidTested, framed, lengthTested, generationTested, headed, pageTested, header}
 use Rattle.page.specs.Places.{placesOf}
 use Rattle.shelf_status.specs.ShelfStatus.{verdictAt, shownAt, codeAt, worst, pageBits}
 use Rattle.control_page.specs.Tests.{slotOffending, offence, bytesTested, controlTested, valid}
@@ -217,7 +217,7 @@ computed : (i : List ℕ) → Agree i table × Agree i errors
 unfolding settingsOf settingsBytes controlOf reservedIn offending chosen settled over under verdictOf entryBy shownBy statusBytes kindOf layoutOf
     readingAllowed nominalAllowed settingsFormed had ordered before elementsOf typeOf kindAt settingsAt thresholdsAt readingAt nominalAt spareAt
     spareClear elementFormed elementsFormed slotsOf startOf slotType isOverall slotAt header shownAt verdictAt codeAt worst shownIn pageBits
-    slotBytes pageWith statusPage firstOf lengthSaid framed lengthTested generationTested headed placesOf slotOffending offence bytesTested
+    slotBytes pageWith statusPage firstOf lengthSaid sizeTested codeTested saidTested framed lengthTested generationTested headed placesOf slotOffending offence bytesTested
     settingsAfter broughtTo inReach alike requestBytes own brings one tried tries cost better best overallIn rowUnder reachable bytesAt served
     wellFormed frontFormed headFormed textFormed typeFormed typeEmpty slotFormed typesFormed pageTested controlTested valid given told
 computed i = (

@@ -2,13 +2,14 @@ pub mod Logic
 pub mod Halves
 pub mod Widths
 pub mod Sums
-pub mod FourPut
-pub mod FoursPut
 pub mod Offence
 pub mod Ends
 pub mod Rows
 pub mod RowStarts
 pub mod Parts
+pub mod BytesPut
+pub mod FourPut
 pub mod RowsPut
+pub mod FoursPut
 pub mod Each
 pub mod Masks

@@ -1,20 +1,17 @@
 -- Rows of bytes: how a loop writes them one after the other, and where each is read. Assumes nothing.
 use mathlib.Core.Path.{_≡_, refl, sym, ap, _∙_}
-use mathlib.Core.Bool.{Bool, true, false}
 use mathlib.Core.List.{List, [], _∷_, _++_, append-assoc, append-nil}
 use mathlib.Core.Logic.{⊎-elim}
 use Prim.Native.Nat.{ℕ, zero, suc, _+_, _*_, _<_, _≤_}
 use native.Mathlib.Nat.{not-suc-le-zero, le-of-suc-le-suc, eq-or-lt-of-le, mul-suc, mul-zero, add-zero, zero-add}
 use native.Mathlib.Numerals.{add-one}
 use native.Mathlib.Omega.{arith}
-use lib.Dec.{leb}
 use lib.ListN.{length, getD, take, drop, set, length-append, length-drop, take-append-drop, List·getD-append}
-use lib.Seq.{sets, sets-eq, take-at, drop-append-add, drop-drop, drop-cons, take-add, getD-append-add, getD-drop, take-suc, set-at, append-snoc, length-take-le, take-all}
-use borrow.Author.Tests.{le-leb, leb-true}
-use Rattle.bits.specs.Choice.{pick}
+use lib.Seq.{take-at, drop-append-add, drop-drop, drop-cons, take-add, getD-append-add, getD-drop, take-suc, set-at, append-snoc, length-take-le, take-all}
+use borrow.Author.Tests.{le-leb}
 use Rattle.bits.specs.Places.{fourAt, putFour}
 use Rattle.bits.specs.Rows.{joined, oneAt, bytesAt, putBytes}
-use Rattle.bits.proofs.Logic.{by-case, pick-yes, pick-no}
+use Rattle.bits.proofs.Logic.{pick-yes}
 
 -- row i has the width w i, and the row behind it starts where it ends
 abbrev pub EndToEnd : (ℕ → ℕ) → (ℕ → ℕ) → (ℕ → List ℕ) → Type 0
@@ -92,63 +89,10 @@ bytes-next p s f k e h =
     pick-yes _ _ _ (le-leb (k + length f) (length (p ++ drop k s)) (length-behind p s k (length f) e h))
     ∙ behind p s f k (length f) e
 
-as-sets : (s : List ℕ) (k a b c d : ℕ) → set (set (set (set s k a) (k + 1) b) (k + 2) c) (k + 3) d ≡ sets s k (a ∷ b ∷ c ∷ d ∷ [])
-as-sets s k a b c d =
-    let e1 : k + 1 ≡ suc k = omega arith in
-    let e2 : k + 2 ≡ suc (suc k) = omega arith in
-    let e3 : k + 3 ≡ suc (suc (suc k)) = omega arith in
-    rw (e1, e2, e3)
-
 -- four bytes that are put are a row
 pub four-put : (s : List ℕ) (k : ℕ) (f : List ℕ) → length f ≡ 4 → putFour s k f ≡ putBytes s k f
-unfolding putFour putBytes
-four-put s k f e =
-    let a = getD f 0 0 in
-    let b = getD f 1 0 in
-    let c = getD f 2 0 in
-    let d = getD f 3 0 in
-    rw (as-four f e)
-    (by-case (leb (k + 4) (length s))
-    (λ t. pick-yes _ _ _ t ∙ as-sets s k a b c d ∙ sets-eq (a ∷ b ∷ c ∷ d ∷ []) s k (leb-true (k + 4) (length s) t) ∙ sym (pick-yes _ _ _ t))
-    (λ t. pick-no _ _ _ t ∙ sym (pick-no _ _ _ t)))
-
-pub length-put-bytes : (s : List ℕ) (k : ℕ) (f : List ℕ) → length (putBytes s k f) ≡ length s
-unfolding putBytes
-length-put-bytes s k f = go (leb (k + length f) (length s)) refl
-  where
-    go : (b : Bool) → leb (k + length f) (length s) ≡ b → length (pick b (take k s ++ f ++ drop (k + length f) s) s) ≡ length s
-    go true e =
-        let l = leb-true (k + length f) (length s) e in
-        simp (length-append, length-drop) (rw (length-take-le k s (omega arith)) (omega arith))
-    go false e = refl
-
--- four bytes of a list, and the list up to and behind them
-pub drop-four : (s : List ℕ) (k : ℕ) → k + 4 ≤ length s → drop k s ≡ fourAt s k ++ drop (k + 4) s
-drop-four s k h =
-    let e1 : k + 1 ≡ suc k = omega arith in
-    let e2 : k + 2 ≡ suc (suc k) = omega arith in
-    let e3 : k + 3 ≡ suc (suc (suc k)) = omega arith in
-    let e4 : k + 4 ≡ suc (suc (suc (suc k))) = omega arith in
-    rw (e1, e2, e3, e4)
-    (drop-cons s k 0 (omega arith)
-    ∙ ap (λ (r : List ℕ). getD s k 0 ∷ r)
-    (drop-cons s (suc k) 0 (omega arith)
-    ∙ ap (λ (r : List ℕ). getD s (suc k) 0 ∷ r)
-    (drop-cons s (suc (suc k)) 0 (omega arith)
-    ∙ ap (λ (r : List ℕ). getD s (suc (suc k)) 0 ∷ r) (drop-cons s (suc (suc (suc k))) 0 (omega arith)))))
-
-pub take-four : (s : List ℕ) (k : ℕ) → k + 4 ≤ length s → take (k + 4) s ≡ take k s ++ fourAt s k
-take-four s k h = take-add k 4 s ∙ ap (λ (r : List ℕ). take k s ++ take 4 r) (drop-four s k h)
-
--- the rows of four from k on are what stands there
-pub fours : (s : List ℕ) (k n : ℕ) → k + 4 * n ≤ length s → take (k + 4 * n) s ≡ take k s ++ joined (λ i. fourAt s (k + 4 * i)) n
-fours s k zero h = rw (mul-zero, add-zero) (sym (append-nil (take k s)))
-fours s k (suc n) h =
-    let e : k + 4 * suc n ≡ k + 4 * n + 4 = omega arith in
-    ap (λ (m : ℕ). take m s) e
-    ∙ take-four s (k + 4 * n) (omega arith)
-    ∙ ap (λ (r : List ℕ). r ++ fourAt s (k + 4 * n)) (fours s k n (omega arith))
-    ∙ append-assoc (take k s) (joined (λ i. fourAt s (k + 4 * i)) n) (fourAt s (k + 4 * n))
+unfolding putFour
+four-put s k f e = ap (putBytes s k) (sym (as-four f e))
 
 pub length-bytes-at : (s : List ℕ) (k n : ℕ) → length (bytesAt s k n) ≡ n
 unfolding bytesAt
@@ -181,6 +125,23 @@ bytes-whole s n e = bytes-there s 0 n (omega arith) ∙ take-all n s (omega arit
 pub four-bytes : (s : List ℕ) (k : ℕ) → bytesAt s k 4 ≡ fourAt s k
 unfolding bytesAt
 four-bytes s k = rw (add-zero k)
+
+pub four-same : (s r : List ℕ) (k j : ℕ) → ((i : ℕ) → i < 4 → getD s (k + i) 0 ≡ getD r (j + i) 0) → fourAt s k ≡ fourAt r j
+four-same s r k j h = sym (four-bytes s k) ∙ bytes-same s r k j 4 h ∙ four-bytes r j
+
+-- the list up to four bytes and with them
+pub take-four : (s : List ℕ) (k : ℕ) → k + 4 ≤ length s → take (k + 4) s ≡ take k s ++ fourAt s k
+take-four s k h = take-add k 4 s ∙ ap (λ (r : List ℕ). take k s ++ r) (sym (bytes-there s k 4 h) ∙ four-bytes s k)
+
+-- the rows of four from k on are what stands there
+pub fours : (s : List ℕ) (k n : ℕ) → k + 4 * n ≤ length s → take (k + 4 * n) s ≡ take k s ++ joined (λ i. fourAt s (k + 4 * i)) n
+fours s k zero h = rw (mul-zero, add-zero) (sym (append-nil (take k s)))
+fours s k (suc n) h =
+    let e : k + 4 * suc n ≡ k + 4 * n + 4 = omega arith in
+    ap (λ (m : ℕ). take m s) e
+    ∙ take-four s (k + 4 * n) (omega arith)
+    ∙ ap (λ (r : List ℕ). r ++ fourAt s (k + 4 * n)) (fours s k n (omega arith))
+    ∙ append-assoc (take k s) (joined (λ i. fourAt s (k + 4 * i)) n) (fourAt s (k + 4 * n))
 
 -- row i is read back
 pub row-back : (at w : ℕ → ℕ) (f : ℕ → List ℕ) → EndToEnd at w f → (g : List ℕ) → length g ≡ at 0 → (n : ℕ) (rest : List ℕ) (i : ℕ) → i < n

@@ -2,16 +2,19 @@
 -- Assumes nothing.
 use mathlib.Core.Path.{_≡_, refl, sym, ap, _∙_}
 use mathlib.Core.List.{List, [], _++_, append-assoc, append-nil}
-use Prim.Native.Nat.{ℕ, zero, suc, _+_, _-_, _≤_}
+use mathlib.Core.Logic.{⊎-elim}
+use Prim.Native.Nat.{ℕ, zero, suc, _+_, _-_, _<_, _≤_}
+use native.Mathlib.Nat.{not-suc-le-zero, le-of-suc-le-suc, eq-or-lt-of-le}
 use native.Mathlib.Numerals.{add-one}
 use native.Mathlib.Omega.{arith}
-use lib.ListN.{length, take, drop, replicate, length-append, length-replicate, replicate-append-replicate}
+use lib.ListN.{length, getD, take, drop, replicate, length-append, length-replicate, replicate-append-replicate}
 use lib.Seq.{drop-at, length-take-le}
 use borrow.Author.Tests.{le-leb}
-use Rattle.bits.specs.Places.{putFour, foursPut}
-use Rattle.bits.specs.Rows.{joined, putBytes, rowsPut}
+use Rattle.bits.specs.Places.{fourAt, putFour, foursPut}
+use Rattle.bits.specs.Rows.{joined, bytesAt, putBytes, rowsPut}
 use Rattle.bits.proofs.Logic.{pick-yes}
-use Rattle.bits.proofs.Rows.{EndToEnd, rows-end, bytes-next, four-put, length-put-bytes}
+use Rattle.bits.proofs.Rows.{EndToEnd, rows-end, as-four, bytes-next, four-put}
+use Rattle.bits.proofs.BytesPut.{Beside, length-put-bytes, bytes-other, bytes-put, take-put, bytes-again}
 
 -- one row behind those that stand
 pub put-behind : (g s f : List ℕ) (k : ℕ) → length g ≡ k → k + length f ≤ length s
@@ -49,14 +52,54 @@ put-zeros f n m e h =
     ∙ ap (λ (r : List ℕ). f ++ r) (ap (drop n) c ∙ drop-at (replicate n 0) (replicate (m - n) 0) n (length-replicate n 0))
 
 module _ (at : ℕ → ℕ) (f : ℕ → List ℕ) (s : List ℕ) where
-  length-rows : (n : ℕ) → length (rowsPut at f s n) ≡ length s
+  pub length-rows : (n : ℕ) → length (rowsPut at f s n) ≡ length s
   length-rows zero = refl
   length-rows (suc n) = length-put-bytes (rowsPut at f s n) (at n) (f n) ∙ length-rows n
 
-  -- rows of four bytes
-  pub fours-rows : ((i : ℕ) → length (f i) ≡ 4) → (n : ℕ) → foursPut at f s n ≡ rowsPut at f s n
-  fours-rows h zero = refl
-  fours-rows h (suc n) = four-put (foursPut at f s n) (at n) (f n) (h n) ∙ ap (λ (o : List ℕ). putBytes o (at n) (f n)) (fours-rows h n)
+  -- a byte that stands in no row
+  pub bytes-kept : (n i : ℕ) → ((k : ℕ) → k < n → Beside i (at k) (length (f k))) → getD (rowsPut at f s n) i 0 ≡ getD s i 0
+  bytes-kept zero i h = refl
+  bytes-kept (suc n) i h = bytes-other (rowsPut at f s n) (at n) (f n) i (h n (omega arith)) ∙ bytes-kept n i (λ k l. h k (omega arith))
+
+  -- what stands before all rows
+  pub rows-front : (m n : ℕ) → ((k : ℕ) → k < n → m ≤ at k) → take m (rowsPut at f s n) ≡ take m s
+  rows-front m zero h = refl
+  rows-front m (suc n) h = take-put (rowsPut at f s n) (at n) (f n) m (h n (omega arith)) ∙ rows-front m n (λ k l. h k (omega arith))
+
+  -- a byte of a row is read back, unless a later row stands on it
+  pub row-read : (n k i : ℕ) → k < n → i < length (f k) → at k + length (f k) ≤ length s
+      → ((j : ℕ) → k < j → j < n → Beside (at k + i) (at j) (length (f j))) → getD (rowsPut at f s n) (at k + i) 0 ≡ getD (f k) i 0
+  row-read zero k i l b r h = absurd (not-suc-le-zero l)
+  row-read (suc n) k i l b r h =
+      ⊎-elim (λ e. last e)
+      (λ (m : k < n).
+      bytes-other (rowsPut at f s n) (at n) (f n) (at k + i) (h n m (omega arith)) ∙ row-read n k i m b r (λ j p q. h j p (omega arith)))
+      (eq-or-lt-of-le (le-of-suc-le-suc l))
+    where
+      last : k ≡ n → getD (putBytes (rowsPut at f s n) (at n) (f n)) (at k + i) 0 ≡ getD (f k) i 0
+      last e =
+          let small : i < length (f n) = rw (← e) b in
+          let room : at n + length (f n) ≤ length (rowsPut at f s n) = rw (length-rows n, ← e) r in
+          ap (λ (j : ℕ). getD (putBytes (rowsPut at f s n) (at n) (f n)) (at j + i) 0) e
+          ∙ bytes-put (rowsPut at f s n) (at n) (f n) i small room
+          ∙ ap (λ (j : ℕ). getD (f j) i 0) (sym e)
+
+  -- nothing is put that does not stand already
+  pub rows-again : (n : ℕ) → ((k : ℕ) → k < n → f k ≡ bytesAt s (at k) (length (f k))) → rowsPut at f s n ≡ s
+  rows-again zero h = refl
+  rows-again (suc n) h =
+      ap (λ (o : List ℕ). putBytes o (at n) (f n)) (rows-again n (λ k l. h k (omega arith)))
+      ∙ ap (putBytes s (at n)) (h n (omega arith))
+      ∙ bytes-again s (at n) (length (f n))
+
+-- the same rows
+pub rows-alike : (at : ℕ → ℕ) (f g : ℕ → List ℕ) (s : List ℕ) (n : ℕ) → ((k : ℕ) → k < n → f k ≡ g k) → rowsPut at f s n ≡ rowsPut at g s n
+rows-alike at f g s zero h = refl
+rows-alike at f g s (suc n) h = rw (rows-alike at f g s n (λ k l. h k (omega arith)), h n (omega arith))
+
+-- rows of four bytes
+pub fours-rows : (at : ℕ → ℕ) (f : ℕ → List ℕ) (s : List ℕ) → ((i : ℕ) → length (f i) ≡ 4) → (n : ℕ) → foursPut at f s n ≡ rowsPut at f s n
+fours-rows at f s h n = rows-alike at (λ i. fourAt (f i) 0) f s n (λ k l. sym (as-four (f k) (h k)))
 
 -- a loop puts one row more
 module _ (at : ℕ → ℕ) (f : ℕ → List ℕ) (s : List ℕ) (n : ℕ) {o : List ℕ} (p : o ≡ rowsPut at f s n) where

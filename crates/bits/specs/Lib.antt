@@ -1,6 +1,6 @@
 pub mod Choice
 pub mod Bits
 pub mod Numbers
-pub mod Places
 pub mod Rows
+pub mod Places
 pub mod Masks

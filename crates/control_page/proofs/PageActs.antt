@@ -6,7 +6,8 @@ use Prim.Native.Nat.{ℕ, _+_, _<_}
 use native.Mathlib.Omega.{arith}
 use lib.ListN.{length}
 use Rattle.bits.specs.Places.{fourAt, putFour, foursPut}
-use Rattle.bits.proofs.FoursPut.{put-same, fours-next, fours-length}
+use Rattle.bits.proofs.FourPut.{put-same}
+use Rattle.bits.proofs.FoursPut.{fours-next, fours-length}
 use Rattle.element.specs.declared.types.Kind.{Kind}
 use Rattle.element.specs.declared.settings.Settings.{Settings}
 use Rattle.element_control.specs.declared.Control.{Control}

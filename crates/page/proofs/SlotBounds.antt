@@ -30,10 +30,14 @@ module _ (c : List ℕ) where
   configuration-there h =
       (configuration-front h, omega (arith, eqb-true (length c) (elementPlace 0) (and-right (frontFormed c) (eqb (length c) (elementPlace 0)) h)))
 
-  -- and so where a call was accepted that tests the configuration first
+  -- a call that tests the configuration first was accepted
+  pub configuration-passed : (rest : Answer) → next (configurationTested c) rest ≡ Accepted → (configurationFormed c ≡ true) × (rest ≡ Accepted)
+  configuration-passed rest a =
+      let h = held-both (configurationTested c) rest a in
+      (held (configurationFormed c) ShelfNotWellFormed Accepted (h .0) .0, h .1)
+
   pub accepted-there : (rest : Answer) {a : Answer} → a ≡ next (configurationTested c) rest → a ≡ Accepted → HasFront c
-  accepted-there rest h u =
-      configuration-there (held (configurationFormed c) ShelfNotWellFormed Accepted (held-both (configurationTested c) rest (sym h ∙ u) .0) .0)
+  accepted-there rest h u = configuration-there (configuration-passed rest (sym h ∙ u) .0)
 
   module _ (h : frontFormed c ≡ true) where
     pub slots-bound : slotsOf c ≤ mostTypes + mostElements

@@ -1,16 +1,18 @@
 -- The first stage of a call, which counts the slots of a page for the shelf or the configuration that it is given. Assumes nothing.
 use mathlib.Core.Path.{_≡_, sym, ap, _∙_}
-use mathlib.Core.Bool.{true}
+use mathlib.Core.Bool.{Bool, true}
 use mathlib.Core.List.{List}
 use Prim.Native.Nat.{ℕ, _+_, _<_}
 use native.Mathlib.Omega.{arith}
 use Rattle.refusals.specs.declared.Refusal.the-variants.{ShelfNotWellFormed}
+use Rattle.refusals.specs.declared.Answer.{Answer}
 use Rattle.refusals.specs.declared.Answer.the-variants.{Accepted}
 use Rattle.refusals.specs.declared.Tested.{Tested}
 use Rattle.refusals.specs.declared.Tested.the-variants.{Slots, Refused}
-use Rattle.refusals.specs.Outcomes.{withSlots}
+use Rattle.refusals.specs.Outcomes.{unless, withSlots}
 use Rattle.refusals.proofs.AcceptedTests.{held}
 use Rattle.refusals.proofs.Stages.{slots-told}
+use Rattle.shelf.specs.Types.{typesOf, elementsOf}
 use Rattle.shelf_formed.specs.declared.Sizes.{Sizes}
 use Rattle.shelf_formed.specs.declared.Opened.{Opened}
 use Rattle.shelf_formed.specs.declared.Opened.the-variants.{Shelf, NotWellFormed}
@@ -23,6 +25,26 @@ use Rattle.shelf_formed.proofs.ElementPut.{shelf-there}
 use Rattle.page.proofs.SlotBounds.{configuration-there}
 use Rattle.page.proofs.SlotsBefore.{slots-are}
 
+-- a block that a test b opens, a shelf or a configuration
+module _ (s : List ℕ) (b : Bool) (there : b ≡ true → HasFront s) where
+  abbrev test : Answer
+  test = unless b ShelfNotWellFormed Accepted
+
+  -- what was counted of it
+  module _ {z : Sizes} (e : (b ≡ true) × (z .types ≡ typesOf s) × (z .elements ≡ elementsOf s)) where
+    opened-sum : z .types + z .elements < 65536
+    opened-sum = let f = there (e .0) .0 in omega (arith, e .1, e .2, few-types s f, few-elements s f)
+
+    opened-slots : Slots (z .types + z .elements) ≡ withSlots test (slotsOf s)
+    opened-slots = ap Slots (slots-are s (e .1) (e .2)) ∙ sym (rw (e .0))
+
+  -- what an accepted stage says
+  counted : {t : Tested} {n : ℕ} → t ≡ Slots n → t ≡ withSlots test (slotsOf s) → (b ≡ true) × HasFront s × (n ≡ slotsOf s)
+  counted u h =
+      let e = slots-told test (slotsOf s) h u in
+      let f = held b ShelfNotWellFormed Accepted (e .0) .0 in
+      (f, there f, e .1)
+
 module _ (s : List ℕ) {o : Opened} where
   -- a shelf
   module _ (h : o ≡ opened s) where
@@ -31,13 +53,10 @@ module _ (s : List ℕ) {o : Opened} where
 
     module _ {z : Sizes} (u : o ≡ Shelf z) where
       pub shelf-sum : z .types + z .elements < 65536
-      shelf-sum =
-          let e = formed-sizes s (sym h ∙ u) in
-          let f = shelf-there s (e .0) .0 in
-          omega (arith, e .1, e .2, few-types s f, few-elements s f)
+      shelf-sum = opened-sum s (wellFormed s) (shelf-there s) (formed-sizes s (sym h ∙ u))
 
       pub shelf-slots : Slots (z .types + z .elements) ≡ withSlots (shelfTested s) (slotsOf s)
-      shelf-slots = let e = formed-sizes s (sym h ∙ u) in ap Slots (slots-are s (e .1) (e .2)) ∙ sym (rw (e .0))
+      shelf-slots = opened-slots s (wellFormed s) (shelf-there s) (formed-sizes s (sym h ∙ u))
 
   -- a configuration
   module _ (h : o ≡ configurationOpened s) where
@@ -46,24 +65,14 @@ module _ (s : List ℕ) {o : Opened} where
 
     module _ {z : Sizes} (u : o ≡ Shelf z) where
       pub configuration-sum : z .types + z .elements < 65536
-      configuration-sum =
-          let e = configuration-sizes s (sym h ∙ u) in
-          let f = configuration-there s (e .0) .0 in
-          omega (arith, e .1, e .2, few-types s f, few-elements s f)
+      configuration-sum = opened-sum s (configurationFormed s) (configuration-there s) (configuration-sizes s (sym h ∙ u))
 
       pub configuration-slots : Slots (z .types + z .elements) ≡ withSlots (configurationTested s) (slotsOf s)
-      configuration-slots = let e = configuration-sizes s (sym h ∙ u) in ap Slots (slots-are s (e .1) (e .2)) ∙ sym (rw (e .0))
+      configuration-slots = opened-slots s (configurationFormed s) (configuration-there s) (configuration-sizes s (sym h ∙ u))
 
--- what an accepted stage says
 module _ (s : List ℕ) {t : Tested} {n : ℕ} (u : t ≡ Slots n) where
   pub shelf-counted : t ≡ withSlots (shelfTested s) (slotsOf s) → (wellFormed s ≡ true) × HasFront s × (n ≡ slotsOf s)
-  shelf-counted h =
-      let e = slots-told (shelfTested s) (slotsOf s) h u in
-      let f = held (wellFormed s) ShelfNotWellFormed Accepted (e .0) .0 in
-      (f, shelf-there s f, e .1)
+  shelf-counted h = counted s (wellFormed s) (shelf-there s) u h
 
   pub configuration-counted : t ≡ withSlots (configurationTested s) (slotsOf s) → (configurationFormed s ≡ true) × HasFront s × (n ≡ slotsOf s)
-  configuration-counted h =
-      let e = slots-told (configurationTested s) (slotsOf s) h u in
-      let f = held (configurationFormed s) ShelfNotWellFormed Accepted (e .0) .0 in
-      (f, configuration-there s f, e .1)
+  configuration-counted h = counted s (configurationFormed s) (configuration-there s) u h

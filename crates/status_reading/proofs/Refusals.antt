@@ -9,7 +9,7 @@ use lib.ListN.{length, getD, drop}
 use borrow.Author.Tests.{eq-eqb, ne-eqb, eqb-true}
 use Rattle.bits.specs.Choice.{pick}
 use Rattle.bits.specs.Places.{fourAt}
-use Rattle.refusals.specs.declared.Refusal.the-variants.{ShelfNotWellFormed, NotAllowed}
+use Rattle.refusals.specs.declared.Refusal.the-variants.{NotAllowed}
 use Rattle.refusals.specs.declared.Answer.{Answer}
 use Rattle.refusals.specs.declared.Answer.the-variants as answer
 use Rattle.refusals.specs.Outcomes.{unless, next, placed}
@@ -19,8 +19,8 @@ use Rattle.shelf_formed.specs.Formed.{HasFront, configurationFormed}
 use Rattle.element.specs.Status.{codeAlone, entryOf}
 use Rattle.element.proofs.TypeStatus.{entry-length}
 use Rattle.page.specs.Slots.{slotsOf, slotAt, slotPlace}
-use Rattle.page.specs.Header.{configurationTested, headed}
-use Rattle.page.proofs.SlotBounds.{configuration-there, slots-bound}
+use Rattle.page.specs.Header.{headed}
+use Rattle.page.proofs.SlotBounds.{configuration-there, configuration-passed, slots-bound}
 use Rattle.page.proofs.HeaderBothWays.{length-tested}
 use Rattle.status_record.proofs.WholeRecord.{record-put}
 use Rattle.shelf_status.specs.declared.PageBits.{PageBits}
@@ -59,9 +59,9 @@ module _ (c p : List ℕ) (a : statusRead c p ≡ answer.Accepted) where
       let n = slotsOf c in
       let t = eqb (offence c p n) (slotPlace n) in
       let r2 : Answer = unless t NotAllowed answer.Accepted in
-      let h1 = held-both (configurationTested c) (next (headed c p 0x02 n) r2) a in
+      let h1 = configuration-passed c (next (headed c p 0x02 n) r2) a in
       let h2 = held-both (headed c p 0x02 n) r2 (h1 .1) in (
-        held (configurationFormed c) ShelfNotWellFormed answer.Accepted (h1 .0) .0,
+        h1 .0,
         h2 .0,
         eqb-true (offence c p n) (slotPlace n) (held t NotAllowed answer.Accepted (h2 .1) .0),
       )

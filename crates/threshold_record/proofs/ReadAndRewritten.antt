@@ -8,7 +8,7 @@ use lib.ListN.{length, getD, drop, take-append-drop, length-drop}
 use lib.Seq.{getD-append-add, take-all}
 use Rattle.bits.specs.Rows.{bytesAt}
 use Rattle.bits.specs.Numbers.{Bytes}
-use Rattle.bits.proofs.Rows.{bytes-there, bytes-get, bytes-same}
+use Rattle.bits.proofs.Rows.{bytes-there, bytes-get, bytes-same, four-same}
 use Rattle.refusals.specs.declared.Answer.the-variants.{Accepted}
 use Rattle.record_head.specs.Head.{recordHead, countTested}
 use Rattle.record_head.proofs.Counted.{count-back}
@@ -34,7 +34,7 @@ module _ (p rest : List ℕ) (n : ℕ) where
       getD-append-add (recordHead 0 0 n) (bytesAt p onPage (4 * n) ++ rest) j 0 ∙ bytes-get p onPage (4 * n) j rest l
 
   row-back : (i : ℕ) → i < n → rowAt told inRecord i ≡ rowAt p onPage i
-  row-back i l = rw (get (4 * i) (omega arith), at 1 (omega arith), at 2 (omega arith), at 3 (omega arith))
+  row-back i l = four-same told p (rowPlace inRecord i) (rowPlace onPage i) at
     where
       at : (j : ℕ) → j < 4 → getD told (rowPlace inRecord i + j) 0 ≡ getD p (rowPlace onPage i + j) 0
       at j b =

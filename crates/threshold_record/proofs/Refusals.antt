@@ -11,7 +11,7 @@ use Rattle.bits.specs.Places.{putFour}
 use Rattle.bits.specs.Rows.{bytesAt, putBytes}
 use Rattle.bits.proofs.Rows.{length-bytes-at}
 use Rattle.bits.proofs.RowsPut.{put-behind, four-behind}
-use Rattle.refusals.specs.declared.Refusal.the-variants.{ShelfNotWellFormed, NotAllowed}
+use Rattle.refusals.specs.declared.Refusal.the-variants.{NotAllowed}
 use Rattle.refusals.specs.declared.Answer.{Answer}
 use Rattle.refusals.specs.declared.Answer.the-variants as answer
 use Rattle.refusals.specs.Outcomes.{placed}
@@ -20,11 +20,11 @@ use Rattle.record_head.specs.Head.{recordHead}
 use Rattle.shelf.specs.Limits.{mostTypes, mostElements}
 use Rattle.shelf_formed.specs.Formed.{HasFront, configurationFormed}
 use Rattle.page.specs.Slots.{slotsOf, slotPlace}
-use Rattle.page.specs.Header.{configurationTested, headed, header}
+use Rattle.page.specs.Header.{headed, header}
 use Rattle.page.specs.Header as pages
 use Rattle.page.proofs.HeaderTests.{head-put}
 use Rattle.page.proofs.HeaderBothWays.{length-tested}
-use Rattle.page.proofs.SlotBounds.{configuration-there, accepted-there, slots-bound}
+use Rattle.page.proofs.SlotBounds.{configuration-there, configuration-passed, accepted-there, slots-bound}
 use Rattle.page.proofs.PagePut.{length-header}
 use Rattle.threshold_rows.specs.Rows.{onPage, inRecord, rowPlace, byteTested, rowsTested}
 use Rattle.threshold_record.specs.Read.{bytesTested, thresholdTested, thresholdRead, thresholdRecord}
@@ -42,11 +42,11 @@ module _ (c p : List ℕ) (a : thresholdRead c p ≡ answer.Accepted) where
   unfolding thresholdRead thresholdTested bytesTested
   read-parts =
       let n = slotsOf c in
-      let h1 = held-both (configurationTested c) (thresholdTested c p n) a in
+      let h1 = configuration-passed c (thresholdTested c p n) a in
       let h2 = held-both (headed c p 0x05 n) (bytesTested c p n) (h1 .1) in
       let h3 = held-both (byteTested p) (rowsTested c p onPage n) (h2 .1) in
       let o = eqb-true (getD p 1 0) 0 (held (eqb (getD p 1 0) 0) NotAllowed answer.Accepted (h3 .0) .0) in
-      (held (configurationFormed c) ShelfNotWellFormed answer.Accepted (h1 .0) .0, h2 .0, o, h3 .1)
+      (h1 .0, h2 .0, o, h3 .1)
 
   pub read-front : HasFront c
   read-front = configuration-there c (read-parts .0)

@@ -1,10 +1,9 @@
 -- `bits::put_four` meets its contract. Assumes nothing.
-use Prim.Native.Nat.{_+_}
 use native.Mathlib.Omega.{arith}
 use denote.Ref.{now}
-use lib.ListN.{length, length-set}
-use borrow.Author.Tests.{le-leb}
+use lib.ListN.{length-set}
 use Rattle.bits.specs.Places.{putFour}
+use Rattle.bits.proofs.FourPut.{sets-put}
 use borrow.Author.Needs.{needs}
 use Rattle.bits.proofs.put_four.Statement.{statement}
 use Rattle.bits.proofs.put_four.Tie as tie
@@ -20,7 +19,7 @@ slice-write-s-4 c = simp length-set (omega arith)
 
 returns : tie.Need-returns
 unfolding putFour
-returns c = rw (le-leb (c .args .at + 4) (length (now (c .args .s))) (c .pre))
+returns c = sets-put (now (c .args .s)) (c .args .at) _ _ _ _ (c .pre)
 
 pub put-four-spec : {M : Type 1} → statement M
 put-four-spec =

@@ -61,7 +61,7 @@ rowOrdered c b k i = ordered (slotAt c i .kind) (rowAt b k i)
 unfoldable pub allOrdered : List ℕ → List ℕ → ℕ → ℕ → Bool
 allOrdered c b k n = allBelow (rowOrdered c b k) n
 
--- 6: byte 1 of a page of thresholds
+-- 6: byte 1 of a page of thresholds is not zero
 abbrev pub byteTested : List ℕ → Answer
 byteTested p = unless (eqb (getD p 1 0) 0) NotAllowed Accepted
 

@@ -18,6 +18,18 @@ pub const ON_PAGE: u16 = 8;
 
 pub const IN_RECORD: u16 = 4;
 
+// What is seen of rows: whether each has only thresholds of its type, and in order.
+pub struct Seen {
+    pub had: bool,
+    pub ordered: bool,
+}
+
+// What one pass over rows comes to: a refused byte of an overall row, or what is seen of all.
+pub enum Scanned {
+    Rows(Seen),
+    Offending,
+}
+
 fn row_place(start: u16, i: u16) -> u32
     ensures { λ r. ⌜ r ≡ rowPlace start i ⌝ }
 {
@@ -82,18 +94,6 @@ pub fn test_had(configuration: &[u8], block: &[u8], start: u16, n: u16) -> Answe
         i += 1;
     }
     Answer::Accepted
-}
-
-// What is seen of rows: whether each has only thresholds of its type, and in order.
-pub struct Seen {
-    pub had: bool,
-    pub ordered: bool,
-}
-
-// What one pass over rows comes to: a refused byte of an overall row, or what is seen of all.
-pub enum Scanned {
-    Rows(Seen),
-    Offending,
 }
 
 impl Seen {

@@ -36,6 +36,7 @@ use Rattle.status_page.specs.Page.{slotBytes, pageWith, statusPage, shownIn}
 use Rattle.refusals.specs.declared.Refusal.the-variants.{Unreachable}
 use Rattle.refusals.specs.declared.Answer.the-variants.{Accepted}
 use Rattle.refusals.specs.Numbers.{numberOf}
+use Rattle.refusals.specs.Outcomes.{next, accepts}
 use Rattle.build_order.specs.Search.{cost, better, best}
 use Rattle.build_element.specs.Wishes.{inReach, alike, requestBytes, own, brings, one}
 use Rattle.build_element.specs.Parts.{tried, tries}
@@ -68,6 +69,10 @@ shelfRest s = eqb (length s) (elementPlace (elementsOf s)) && elementsFormed s (
 abbrev wishRest : List ℕ → List ℕ → Bool
 wishRest s w = eqb (length w) (4 * elementsOf s) && allBelow (mayBe s w) (elementsOf s)
 
+-- and of the tests of a control page for it
+abbrev pageRest : List ℕ → List ℕ → Bool
+pageRest s p = accepts (next (headed s p 0x02 (slotsOf s)) (bytesTested s p (slotsOf s)))
+
 -- the page that is made, where o is the overall element of its one type: so that is searched once, and not for each slot
 abbrev pageUnder : List ℕ → List ℕ → List ℕ → List ℕ
 pageUnder s w o = header s 0x02 0 (slotsOf s) ++ joined (λ k. rowUnder s w (slotAt s k) o) (slotsOf s)
@@ -85,7 +90,7 @@ given i (builds f w p n) =
     ∷ []
 given i (reaches f w p n) =
     let s = anyA i f in
-    (num (allBytes p) ∷ num (valid s p) ∷ selectsOn s p ∷ cost (searchIn s w 0) (fourAt p (slotPlace 0)) ∷ [])
+    (num (allBytes p) ∷ num (shelfRest s) ∷ num (pageRest s p) ∷ selectsOn s p ∷ cost (searchIn s w 0) (fourAt p (slotPlace 0)) ∷ [])
     ∷ broughtTo s p
     ∷ []
 given i (refuses f w n) =
@@ -98,7 +103,7 @@ told (shows k s r n t b) = b ∷ []
 told (judges k r n t v) = v ∷ []
 told (tells f p) = (1 ∷ []) ∷ p ∷ []
 told (builds f w p n) = (1 ∷ 1 ∷ 1 ∷ 1 ∷ 1 ∷ n ∷ []) ∷ fourAt p (slotPlace 0) ∷ p ∷ []
-told (reaches f w p n) = (1 ∷ 1 ∷ n ∷ n ∷ []) ∷ w ∷ []
+told (reaches f w p n) = (1 ∷ 1 ∷ 1 ∷ n ∷ n ∷ []) ∷ w ∷ []
 told (refuses f w n) = (1 ∷ 1 ∷ 0 ∷ n ∷ []) ∷ []
 
 yes : (b : Bool) → num b ≡ 1 → b ≡ true
@@ -136,6 +141,10 @@ module _ (i f : List ℕ) where
   unfolding wellFormed
   formed t = and-both (and-both front (and-left _ _ t)) (and-right (eqb (length s) (elementPlace (elementsOf s))) _ t)
 
+  accepted : (p : List ℕ) → shelfRest s ≡ true → pageRest s p ≡ true → valid s p ≡ true
+  unfolding valid controlTested pageTested
+  accepted p t h = rw (formed t) h
+
   module _ (w : List ℕ) where
     taken : shelfRest s ≡ true → wishRest s w ≡ true → wishTested s w ≡ Accepted
     taken t u = wish-taken s w (formed t) (eqb-true _ _ (and-left _ _ u)) (and-right (eqb (length w) (4 * elementsOf s)) _ u)
@@ -169,9 +178,9 @@ module _ (i f : List ℕ) where
     reached : (p : List ℕ) (n : ℕ) → given i (reaches f w p n) ≡ told (reaches f w p n) → ReachedBy w p n s
     unfolding given told
     reached p n e = (
-      (are-bytes p (yes (allBytes p) (number 0 e)), yes (valid s p) (number 1 e), list 1 e),
-      number 2 e,
-      (λ q r o. let c = ap (cost (searchIn s w 0)) o ∙ number 3 e in omega (arith, c, needed q r)),
+      (are-bytes p (yes (allBytes p) (number 0 e)), accepted p (yes (shelfRest s) (number 1 e)) (yes (pageRest s p) (number 2 e)), list 1 e),
+      number 3 e,
+      (λ q r o. let c = ap (cost (searchIn s w 0)) o ∙ number 4 e in omega (arith, c, needed q r)),
     )
 
     refused : (n : ℕ) → given i (refuses f w n) ≡ told (refuses f w n) → RefusedBy w n s
@@ -213,22 +222,29 @@ all-hold (c ∷ cs) a = (holds c (λ i. first i (a i)), all-hold cs (λ i. rest 
     rest : (i : List ℕ) → Agree i (c ∷ cs) → Agree i cs
     rest i (e also l) = l
 
-computed : (i : List ℕ) → Agree i table × Agree i errors
-unfolding settingsOf settingsBytes controlOf reservedIn offending chosen settled over under verdictOf entryBy shownBy statusBytes kindOf layoutOf
-    readingAllowed nominalAllowed settingsFormed had ordered before elementsOf typeOf kindAt settingsAt thresholdsAt readingAt nominalAt spareAt
-    spareClear elementFormed elementsFormed slotsOf startOf slotType isOverall slotAt header shownAt verdictAt codeAt worst shownIn pageBits
-    slotBytes pageWith statusPage firstOf lengthSaid sizeTested codeTested saidTested framed lengthTested generationTested headed placesOf slotOffending offence bytesTested
-    settingsAfter broughtTo inReach alike requestBytes own brings one tried tries cost better best overallIn rowUnder reachable bytesAt served
-    wellFormed frontFormed headFormed textFormed typeFormed typeEmpty slotFormed typesFormed pageTested controlTested valid given told
-computed i = (
-  refl also refl also refl also refl also refl also refl also refl also refl also refl also refl also refl also refl
-      also refl also refl also refl also refl also refl also refl also refl also refl also refl also refl also refl also refl
-      also end,
-  refl also refl also refl also end,
-)
+computed : (i : List ℕ) → Agree i table
+unfolding settingsOf settingsBytes controlOf reservedIn offending chosen settled over under verdictOf entryBy shownBy statusBytes kindOf
+    layoutOf readingAllowed nominalAllowed settingsFormed had ordered before elementsOf typeOf kindAt settingsAt thresholdsAt readingAt
+    nominalAt spareAt spareClear elementFormed elementsFormed slotsOf startOf slotType isOverall slotAt header shownAt verdictAt codeAt
+    worst shownIn pageBits slotBytes pageWith statusPage firstOf lengthSaid sizeTested codeTested saidTested framed lengthTested
+    generationTested headed placesOf slotOffending offence bytesTested settingsAfter broughtTo inReach alike requestBytes own brings one
+    tried tries cost better best overallIn rowUnder reachable bytesAt served given told
+computed i =
+    refl also refl also refl also refl also refl also refl also refl also refl also refl also refl also refl also refl
+    also refl also refl also refl also refl also refl also refl also refl also refl also refl also refl also refl also refl
+    also end
+
+-- apart from the table, so that antt holds less at a time
+computed-errors : (i : List ℕ) → Agree i errors
+unfolding settingsOf settingsBytes controlOf reservedIn offending chosen settled kindOf layoutOf readingAllowed nominalAllowed
+    settingsFormed had ordered before elementsOf typeOf kindAt settingsAt thresholdsAt readingAt nominalAt spareAt spareClear elementFormed
+    elementsFormed slotsOf startOf slotType isOverall slotAt firstOf lengthSaid sizeTested codeTested saidTested framed lengthTested
+    generationTested headed placesOf slotOffending offence bytesTested settingsAfter broughtTo alike requestBytes own brings one cost
+    bytesAt given told
+computed-errors i = refl also refl also refl also end
 
 pub proved : AllHold table
-proved = all-hold table (λ i. computed i .0)
+proved = all-hold table computed
 
 pub errors-proved : AllHold errors
-errors-proved = all-hold errors (λ i. computed i .1)
+errors-proved = all-hold errors computed-errors

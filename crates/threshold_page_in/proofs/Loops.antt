@@ -1,4 +1,4 @@
--- What each step of writing and testing threshold rows comes to, from what the calls say. Assumes nothing.
+-- What each step of writing threshold rows comes to, from what the calls say. Assumes nothing.
 use mathlib.Core.Path.{_≡_, _∙_}
 use mathlib.Core.List.{List, [], _∷_}
 use Prim.Native.Nat.{ℕ}

@@ -2,8 +2,10 @@
  *
  * A shelf is one block of bytes that the caller owns (docs/LAYOUT.md). The library keeps no state and
  * allocates nothing. Every call takes whatever bytes it is given and answers with a refusal number, 0 if
- * it accepted. A refused call leaves every lent byte as it was, but for `written` and `selects`, which are
- * then 0. No call has to be preceded by a check, but for what C's types cannot say: a pointer is to as
+ * it accepted. A refused call leaves every lent byte as it was, but for `written`, `selects` and `offset`,
+ * which it sets: the first two to 0; `offset` to the place on the page, counted from 0, of the first byte
+ * that is not allowed if the answer is 6 (SES_NOT_ALLOWED), else to 0, as after acceptance. Byte 0 is never
+ * that byte. No call has to be preceded by a check, but for what C's types cannot say: a pointer is to as
  * many bytes as its length or its type says, and is not NULL, also where the length is 0; and what one
  * call is lent does not overlap.
  *
@@ -31,7 +33,8 @@ enum ses_refusal {
     SES_THRESHOLD_ORDER = 8,
     SES_WANTED_LIST = 9,
     SES_UNREACHABLE = 10,
-    SES_OUTPUT_TOO_SHORT = 11
+    SES_OUTPUT_TOO_SHORT = 11,
+    SES_NEEDED_LENGTH = 12
 };
 
 /* What a refusal number means, in a few words. */
@@ -42,7 +45,7 @@ static inline const char *ses_meaning(uint8_t number)
     case SES_SHELF_NOT_WELL_FORMED: return "the shelf record is not well formed";
     case SES_PAGE_TOO_SHORT: return "the page has fewer than 4 bytes";
     case SES_PAGE_CODE: return "byte 0 is not the page code wanted";
-    case SES_PAGE_LENGTH: return "the length is not what the page says or the types need";
+    case SES_PAGE_LENGTH: return "the bytes given are not the page length + 4";
     case SES_GENERATION: return "the generation code differs from the shelf's";
     case SES_NOT_ALLOWED: return "a reserved bit is set, or a value is not allowed";
     case SES_NO_SUCH_THRESHOLD: return "a threshold is set that the type does not have";
@@ -50,6 +53,7 @@ static inline const char *ses_meaning(uint8_t number)
     case SES_WANTED_LIST: return "the list does not fit the shelf's elements";
     case SES_UNREACHABLE: return "no valid control page reaches the wanted settings";
     case SES_OUTPUT_TOO_SHORT: return "the output buffer is shorter than the page";
+    case SES_NEEDED_LENGTH: return "the types need another length than the page has";
     default: return "no refusal has this number";
     }
 }
@@ -139,16 +143,20 @@ uint8_t ses_write_status(const uint8_t *shelf, size_t shelf_length,
 uint8_t ses_write_thresholds(const uint8_t *shelf, size_t shelf_length,
                              uint8_t *out, size_t out_length, uint32_t *written);
 
-/* Read a configuration page.  Refusals 2, 3, 4, 6. */
+/* Read a configuration page.  Refusals 2, 3, 4, 12, 6, in this order. With 6 `offset` tells the first byte in
+ * page order that is not allowed: fixed part, headers, texts. Too many elements in all are told at the count
+ * that passes the limit. */
 uint8_t ses_read_configuration(const uint8_t *page, size_t page_length,
-                               uint8_t configuration[SES_CONFIGURATION_LENGTH]);
+                               uint8_t configuration[SES_CONFIGURATION_LENGTH], uint32_t *offset);
 
 /* Read a status page or a threshold status page, whose type list and generation code are those of a
- * configuration.  Refusals 1 to 6, for thresholds 1 to 8. A record's bytes after its last entry are kept. */
+ * configuration.  Refusals 1, 2, 3, 4, 12, 5, 6; for thresholds 1, 2, 3, 4, 12, 5, 6, 7, 8, each in this order.
+ * With 6 `offset` tells the first byte that is not allowed. A record's bytes after its last entry are kept. */
 uint8_t ses_read_status(const uint8_t *configuration, size_t configuration_length,
-                        const uint8_t *page, size_t page_length, struct ses_status *record);
+                        const uint8_t *page, size_t page_length, struct ses_status *record, uint32_t *offset);
 uint8_t ses_read_thresholds(const uint8_t *configuration, size_t configuration_length,
-                            const uint8_t *page, size_t page_length, struct ses_thresholds *record);
+                            const uint8_t *page, size_t page_length, struct ses_thresholds *record,
+                            uint32_t *offset);
 
 /* Write again what a reader handed back.  Refusals 1, 11; for status 1, 9, 6, 11; for thresholds 1, 9, 6,
  * 7, 8, 11, each in this order. What a record holds after its last entry, and `spare`, is not looked at. */
@@ -161,18 +169,22 @@ uint8_t ses_rewrite_thresholds(const uint8_t *configuration, size_t configuratio
                                const struct ses_thresholds *record,
                                uint8_t *out, size_t out_length, uint32_t *written);
 
-/* Apply an enclosure control page (02h) to the shelf.  Refusals 1 to 6.
+/* Apply an enclosure control page (02h) to the shelf.  Refusals 1, 2, 3, 4, 12, 5, 6, in this order. With 6
+ * `offset` tells the first byte with a reserved bit: byte 1, or one of an element with SELECT.
  * An individual element with SELECT acts alone on its element. One without leaves its element to the overall
  * element of the type, if that has SELECT, else to nothing; its other bits have no effect. PRDFAIL, DISABLED,
  * IDENT, FAIL and a fan's ON become the bits of what acts. RST SWAP 1 clears SWAP, 0 keeps it. Speed code 0
  * keeps a fan's speed. */
-uint8_t ses_apply_control(uint8_t *shelf, size_t shelf_length, const uint8_t *page, size_t page_length);
+uint8_t ses_apply_control(uint8_t *shelf, size_t shelf_length, const uint8_t *page, size_t page_length,
+                          uint32_t *offset);
 
-/* Apply a threshold page (05h, Out) to the shelf.  Refusals 1 to 8.
+/* Apply a threshold page (05h, Out) to the shelf.  Refusals 1, 2, 3, 4, 12, 5, 6, 7, 8, in this order. Only
+ * byte 1 is tested for 6, so `offset` is then 1.
  * For each of an element's four thresholds the individual byte is taken if it is not zero, else the overall
  * byte of the type if that is not zero, else the stored one stays. If one element would break the order of
  * its thresholds, the whole page is refused. */
-uint8_t ses_apply_thresholds(uint8_t *shelf, size_t shelf_length, const uint8_t *page, size_t page_length);
+uint8_t ses_apply_thresholds(uint8_t *shelf, size_t shelf_length, const uint8_t *page, size_t page_length,
+                             uint32_t *offset);
 
 /* Write the enclosure control page (02h) that brings every element to exactly the settings wanted: four bytes
  * for each element, in their order, as the shelf block stores them.  Refusals 1, 9, 10, 11.

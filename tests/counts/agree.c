@@ -1,7 +1,7 @@
 /* agree ROUNDS: every call on random shelves, pages, records and wishes, good and spoilt, by the library and by plain C. Both
- * get the same memory and must leave the same: answers, lengths and every lent byte. Each answer that a call can give must
- * come up, and each byte of a status record's entry must be the reason of a refusal, if it can. The random numbers are the same
- * in every run. */
+ * get the same memory and must leave the same: answers, lengths, offsets and every lent byte. Each answer that a call can give
+ * must come up, each byte of a page must be told as the first offending one and each byte of a status record's entry be the
+ * reason of a refusal, if they can. The random numbers are the same in every run. */
 #include "plain.h"
 
 #include <stdio.h>
@@ -16,7 +16,7 @@ struct lent {
     uint8_t shelf[ROOM], configuration[ROOM], page[ROOM], wanted[ROOM], out[ROOM], told[SES_CONFIGURATION_LENGTH];
     struct ses_status status;
     struct ses_thresholds thresholds;
-    uint32_t written, selects, answer;
+    uint32_t written, selects, offset, answer;
 };
 
 static const struct {
@@ -25,10 +25,9 @@ static const struct {
 } parts[] = {
 #define PART(name) {#name, offsetof(struct lent, name), sizeof((struct lent *)0)->name}
     PART(shelf), PART(configuration), PART(page), PART(wanted), PART(out), PART(told),
-    PART(status), PART(thresholds), PART(written), PART(selects), PART(answer),
+    PART(status), PART(thresholds), PART(written), PART(selects), PART(offset), PART(answer),
 };
 
-/* The calls with the refusals that each can give. */
 enum call {
     CHECK,
     WRITE_CONFIGURATION, READ_CONFIGURATION, REWRITE_CONFIGURATION,
@@ -38,28 +37,45 @@ enum call {
     CALLS
 };
 
-enum { ANSWERS = 12 };
+enum { ANSWERS = 13 };
 
+/* Where on a page the byte stands that a refusal tells by its offset. All bytes of the texts count as one. So does what is told
+ * behind a byte that was told before and mended. */
+enum region { FIXED_PART, HEADER, TEXTS, OVERALL, INDIVIDUAL, BEHIND, REGIONS };
+
+enum { LONGEST_REGION = 48 };
+
+static const char *const regions[REGIONS] = {
+    "the fixed part", "a header", "the texts", "an overall element", "an individual element", "what is behind a mended byte",
+};
+
+/* The calls with the refusals that each can give, and with the bytes that it can tell, a bit for each. */
 static const struct {
     const char *name;
     uint8_t refusals[ANSWERS];
+    uint64_t told_at[REGIONS];
 } calls[CALLS] = {
-    [CHECK] = {"check", {1}},
-    [WRITE_CONFIGURATION] = {"write_configuration", {1, 11}},
-    [READ_CONFIGURATION] = {"read_configuration", {2, 3, 4, 6}},
-    [REWRITE_CONFIGURATION] = {"rewrite_configuration", {1, 11}},
-    [WRITE_STATUS] = {"write_status", {1, 11}},
-    [READ_STATUS] = {"read_status", {1, 2, 3, 4, 5, 6}},
-    [REWRITE_STATUS] = {"rewrite_status", {1, 6, 9, 11}},
-    [WRITE_THRESHOLDS] = {"write_thresholds", {1, 11}},
-    [READ_THRESHOLDS] = {"read_thresholds", {1, 2, 3, 4, 5, 6, 7, 8}},
-    [REWRITE_THRESHOLDS] = {"rewrite_thresholds", {1, 6, 7, 8, 9, 11}},
-    [APPLY_CONTROL] = {"apply_control", {1, 2, 3, 4, 5, 6}},
-    [APPLY_THRESHOLDS] = {"apply_thresholds", {1, 2, 3, 4, 5, 6, 7, 8}},
-    [BUILD_CONTROL] = {"build_control", {1, 9, 10, 11}},
+    [CHECK] = {"check", {1}, {0}},
+    [WRITE_CONFIGURATION] = {"write_configuration", {1, 11}, {0}},
+    [READ_CONFIGURATION] = {"read_configuration", {2, 3, 4, 12, 6},
+                            {[FIXED_PART] = 0xF02, [HEADER] = 0xF, [TEXTS] = 1, [BEHIND] = 1}},
+    [REWRITE_CONFIGURATION] = {"rewrite_configuration", {1, 11}, {0}},
+    [WRITE_STATUS] = {"write_status", {1, 11}, {0}},
+    /* No type has a reserved bit in byte 2. */
+    [READ_STATUS] = {"read_status", {1, 2, 3, 4, 12, 5, 6},
+                     {[FIXED_PART] = 0x2, [OVERALL] = 0xF, [INDIVIDUAL] = 0xB, [BEHIND] = 1}},
+    [REWRITE_STATUS] = {"rewrite_status", {1, 6, 9, 11}, {0}},
+    [WRITE_THRESHOLDS] = {"write_thresholds", {1, 11}, {0}},
+    [READ_THRESHOLDS] = {"read_thresholds", {1, 2, 3, 4, 12, 5, 6, 7, 8},
+                         {[FIXED_PART] = 0x2, [OVERALL] = 0xF, [BEHIND] = 1}},
+    [REWRITE_THRESHOLDS] = {"rewrite_thresholds", {1, 6, 7, 8, 9, 11}, {0}},
+    [APPLY_CONTROL] = {"apply_control", {1, 2, 3, 4, 12, 5, 6},
+                       {[FIXED_PART] = 0x2, [OVERALL] = 0xF, [INDIVIDUAL] = 0xF, [BEHIND] = 1}},
+    [APPLY_THRESHOLDS] = {"apply_thresholds", {1, 2, 3, 4, 12, 5, 6, 7, 8}, {[FIXED_PART] = 0x2}},
+    [BUILD_CONTROL] = {"build_control", {1, 9, 10, 11}, {0}},
 };
 
-static unsigned given[CALLS][ANSWERS];
+static unsigned given[CALLS][ANSWERS], told_at[CALLS][REGIONS][LONGEST_REGION];
 
 /* The entries of a status record by what they stand for, and the bytes of each that may have any value. How often the record was
  * refused for each byte of them, because it was one too large. */
@@ -85,9 +101,12 @@ static struct lent start, library, plain;
 static size_t shelf_length, configuration_length, page_length, wanted_length, out_length;
 static long round_number;
 
-/* The shelf before it was spoilt. */
-static uint8_t good[ROOM];
+/* The shelf and the page before they were spoilt. */
+static uint8_t good[ROOM], good_page[ROOM];
 static unsigned elements;
+
+/* The byte of the page that was mended last, 0 if none was. */
+static uint32_t mended;
 
 static uint32_t below(uint32_t limit)
 {
@@ -314,25 +333,31 @@ static void put_page_length(void)
 /* A page of a wrong length sometimes says its own. */
 static void spoil_page(void)
 {
+    memcpy(good_page, start.page, sizeof good_page);
+    mended = 0;
     if (one_in(2))
         return;
-    spoil(start.page, &page_length, 12);
+    do
+        spoil(start.page, &page_length, 12);
+    while (one_in(3));
     if (page_length >= 4 && one_in(4))
         put_page_length();
 }
 
-/* A configuration page whose length is right for its types and texts, though there may be more than a shelf can have. */
+/* A configuration page whose length is right for its types and texts, though these may be more or others than a shelf can have. */
 static void make_odd_configuration_page(void)
 {
     unsigned types = below(11);
     uint8_t *header = start.page + 48, *end = header + 4 * types, *text = end;
+    if (one_in(8))
+        fill(start.page + 8, 2);
     start.page[10] = (uint8_t)types;
     for (; header < end; header += 4) {
-        header[0] = COOLING + (uint8_t)below(2);
+        header[0] = COOLING + (uint8_t)(one_in(32) ? 2 : below(2));
         header[1] = (uint8_t)below(16);
-        header[2] = 0;
+        header[2] = (uint8_t)one_in(16);
         header[3] = (uint8_t)below(34);
-        memset(text, ' ', header[3]);
+        memset(text, one_in(8) ? 0x7F : ' ', header[3]);
         text += header[3];
     }
     page_length = (size_t)(text - start.page);
@@ -353,9 +378,9 @@ static size_t spoil_record(void *record, size_t length)
 }
 
 /* 0 for an overall entry, else 1 and up by the type. */
-static unsigned sort_of_entry(size_t entry)
+static unsigned sort_of_entry(const uint8_t *front, size_t entry)
 {
-    const uint8_t *type = good + 44;
+    const uint8_t *type = front + 44;
     for (; entry > type[1]; type += 36)
         entry -= 1u + type[1];
     if (entry == 0)
@@ -367,6 +392,54 @@ static unsigned sort_of_entry(size_t entry)
     default: return 4;
     }
 }
+
+static void count_in_configuration(uint32_t offset)
+{
+    if (offset < 48)
+        told_at[READ_CONFIGURATION][FIXED_PART][offset]++;
+    else if (offset < 48 + 4u * start.page[10])
+        told_at[READ_CONFIGURATION][HEADER][offset % 4]++;
+    else
+        told_at[READ_CONFIGURATION][TEXTS][0]++;
+}
+
+static void count_in_slots(enum call call, const uint8_t *front, uint32_t offset)
+{
+    if (offset < 8)
+        told_at[call][FIXED_PART][offset]++;
+    else
+        told_at[call][sort_of_entry(front, offset / 4 - 2) == 0 ? OVERALL : INDIVIDUAL][offset % 4]++;
+}
+
+/* Counts the byte of the page that the answer tells, if it tells one. If that byte was spoilt, it is mended, and the call has to
+ * be made again; what offends then is not before it. It may be the same byte, since not every page is good before it is spoilt. */
+static int mend_told(enum call call, const uint8_t *front)
+{
+    uint32_t offset = plain.offset;
+    if (plain.answer != SES_NOT_ALLOWED)
+        return 0;
+    if (offset == 0 || offset < mended || offset >= page_length) {
+        fprintf(stderr, "agree: round %ld, %s: both tell byte %u of %zu after byte %u\n", round_number, calls[call].name, offset,
+                page_length, mended);
+        exit(1);
+    }
+    if (front == NULL)
+        count_in_configuration(offset);
+    else
+        count_in_slots(call, front, offset);
+    told_at[call][BEHIND][0] += mended != 0 && offset > mended;
+    if (start.page[offset] == good_page[offset])
+        return 0;
+    start.page[offset] = good_page[offset];
+    mended = offset;
+    return 1;
+}
+
+/* A call that tells the offset of a byte. The type list of its page is in `front`, NULL for a configuration page. */
+#define BOTH_TELL(number, name, front, ...)                                                                            \
+    do                                                                                                                 \
+        BOTH(number, name, __VA_ARGS__, &at->offset);                                                                  \
+    while (mend_told(number, front))
 
 /* Puts a number that is just past some field's limit into any byte of an entry, overall or not. Hands back which. */
 static size_t pass_limit_in_entry(void)
@@ -398,7 +471,7 @@ static void count_refused_byte(size_t at)
     int own_configuration = configuration_length == SES_CONFIGURATION_LENGTH &&
                             memcmp(start.configuration, good, SES_CONFIGURATION_LENGTH) == 0;
     if (at >= 4 && own_configuration && plain.answer == SES_NOT_ALLOWED && one_too_large(at))
-        refused_for[sort_of_entry((at - 4) / ENTRY_LENGTH)][(at - 4) % ENTRY_LENGTH]++;
+        refused_for[sort_of_entry(good, (at - 4) / ENTRY_LENGTH)][(at - 4) % ENTRY_LENGTH]++;
 }
 
 static void compare_configuration(void)
@@ -411,7 +484,7 @@ static void compare_configuration(void)
     if (one_in(4))
         make_odd_configuration_page();
     spoil_page();
-    BOTH(READ_CONFIGURATION, read_configuration, PAGE, at->told);
+    BOTH_TELL(READ_CONFIGURATION, read_configuration, NULL, PAGE, at->told);
 }
 
 static void compare_status(void)
@@ -420,9 +493,10 @@ static void compare_status(void)
     BOTH(WRITE_STATUS, write_status, SHELF, OUT);
     make_page(ses_write_status);
     struct ses_status record = start.status;
-    ses_read_status(good, SES_CONFIGURATION_LENGTH, start.page, page_length, &record);
+    uint32_t offset;
+    ses_read_status(good, SES_CONFIGURATION_LENGTH, start.page, page_length, &record, &offset);
     spoil_page();
-    BOTH(READ_STATUS, read_status, CONFIGURATION, PAGE, &at->status);
+    BOTH_TELL(READ_STATUS, read_status, start.configuration, CONFIGURATION, PAGE, &at->status);
     start.status = record;
     size_t in_use = 4 + ENTRY_LENGTH * (good[40] + elements);
     size_t spoilt = one_in(2) ? pass_limit_in_entry() : spoil_record(&start.status, in_use);
@@ -436,9 +510,10 @@ static void compare_thresholds(void)
     BOTH(WRITE_THRESHOLDS, write_thresholds, SHELF, OUT);
     make_page(ses_write_thresholds);
     struct ses_thresholds record = start.thresholds;
-    ses_read_thresholds(good, SES_CONFIGURATION_LENGTH, start.page, page_length, &record);
+    uint32_t offset;
+    ses_read_thresholds(good, SES_CONFIGURATION_LENGTH, start.page, page_length, &record, &offset);
     spoil_page();
-    BOTH(READ_THRESHOLDS, read_thresholds, CONFIGURATION, PAGE, &at->thresholds);
+    BOTH_TELL(READ_THRESHOLDS, read_thresholds, start.configuration, CONFIGURATION, PAGE, &at->thresholds);
     start.thresholds = record;
     spoil_record(&start.thresholds, 4 + 4 * (good[40] + elements));
     BOTH(REWRITE_THRESHOLDS, rewrite_thresholds, CONFIGURATION, &at->thresholds, OUT);
@@ -446,13 +521,14 @@ static void compare_thresholds(void)
 
 /* The pages that act. */
 
+/* Now and then with reserved bits, from some byte on. */
 static void make_control(uint8_t *slot, uint8_t type)
 {
+    unsigned right = one_in(5) ? below(4) : 4;
     make_settings(slot, type);
     if (one_in(2))
         slot[3] &= 0xF8;
-    if (one_in(5))
-        fill(slot, 4);
+    fill(slot + right, 4 - right);
     slot[0] = one_in(4) ? slot[0] & 0x7F : slot[0] | 0x80;
 }
 
@@ -477,10 +553,10 @@ static void compare_apply(void)
 {
     make_out_page(0x02, make_control);
     spoil_page();
-    BOTH(APPLY_CONTROL, apply_control, SHELF, PAGE);
+    BOTH_TELL(APPLY_CONTROL, apply_control, start.shelf, SHELF, PAGE);
     make_out_page(0x05, make_limits);
     spoil_page();
-    BOTH(APPLY_THRESHOLDS, apply_thresholds, SHELF, PAGE);
+    BOTH_TELL(APPLY_THRESHOLDS, apply_thresholds, start.shelf, SHELF, PAGE);
 }
 
 /* The builder. */
@@ -532,6 +608,21 @@ static int all_given(void)
     return right;
 }
 
+/* Each byte of a page that can be told was, and no other. */
+static int all_told(void)
+{
+    int right = 1;
+    for (int call = 0; call < CALLS; call++)
+        for (int region = 0; region < REGIONS; region++)
+            for (unsigned at = 0; at < LONGEST_REGION; at++)
+                if ((told_at[call][region][at] != 0) != (calls[call].told_at[region] >> at & 1)) {
+                    fprintf(stderr, "agree: %s told byte %u of %s %u times\n", calls[call].name, at, regions[region],
+                            told_at[call][region][at]);
+                    right = 0;
+                }
+    return right;
+}
+
 /* Each byte of an entry that can be the reason of a refusal was, and no other. */
 static int all_refused(void)
 {
@@ -574,7 +665,7 @@ int main(int argc, char **argv)
         compare_apply();
         compare_build();
     }
-    if (!(all_given() & all_refused()))
+    if (!(all_given() & all_told() & all_refused()))
         return 1;
     printf("The library and plain C agree on %ld random shelves and their pages. How often each call gave each answer:\n", rounds);
     print_given();

@@ -13,7 +13,7 @@ void prepare(unsigned call, unsigned on_shelf);
 static uint8_t shelf[SES_LONGEST_BLOCK], configuration[SES_CONFIGURATION_LENGTH], page[SES_LONGEST_CONFIGURATION_PAGE], wanted[SES_LONGEST_WANTED_LIST], out[512];
 static struct ses_status status;
 static struct ses_thresholds thresholds;
-static uint32_t written, selects;
+static uint32_t written, selects, offset;
 
 static size_t shelf_length, page_length;
 static unsigned types, each, elements;
@@ -198,7 +198,7 @@ static void read_configuration(void)
 {
     make_page(plain_write_configuration);
     memset(configuration, 0xEE, sizeof configuration);
-    JOB(read_configuration, PAGE, (uintptr_t)configuration);
+    JOB(read_configuration, PAGE, (uintptr_t)configuration, (uintptr_t)&offset);
 }
 
 static void rewrite_configuration(void)
@@ -214,13 +214,13 @@ static void write_status(void)
 static void read_status(void)
 {
     make_page(plain_write_status);
-    JOB(read_status, CONFIGURATION, PAGE, (uintptr_t)&status);
+    JOB(read_status, CONFIGURATION, PAGE, (uintptr_t)&status, (uintptr_t)&offset);
 }
 
 static void rewrite_status(void)
 {
     make_page(plain_write_status);
-    plain_read_status(configuration, sizeof configuration, page, page_length, &status);
+    plain_read_status(configuration, sizeof configuration, page, page_length, &status, &offset);
     JOB(rewrite_status, CONFIGURATION, (uintptr_t)&status, OUT);
 }
 
@@ -232,26 +232,26 @@ static void write_thresholds(void)
 static void read_thresholds(void)
 {
     make_page(plain_write_thresholds);
-    JOB(read_thresholds, CONFIGURATION, PAGE, (uintptr_t)&thresholds);
+    JOB(read_thresholds, CONFIGURATION, PAGE, (uintptr_t)&thresholds, (uintptr_t)&offset);
 }
 
 static void rewrite_thresholds(void)
 {
     make_page(plain_write_thresholds);
-    plain_read_thresholds(configuration, sizeof configuration, page, page_length, &thresholds);
+    plain_read_thresholds(configuration, sizeof configuration, page, page_length, &thresholds, &offset);
     JOB(rewrite_thresholds, CONFIGURATION, (uintptr_t)&thresholds, OUT);
 }
 
 static void apply_control(void)
 {
     make_out_page(0x02, ask_control);
-    JOB(apply_control, SHELF, PAGE);
+    JOB(apply_control, SHELF, PAGE, (uintptr_t)&offset);
 }
 
 static void apply_thresholds(void)
 {
     make_out_page(0x05, ask_thresholds);
-    JOB(apply_thresholds, SHELF, PAGE);
+    JOB(apply_thresholds, SHELF, PAGE, (uintptr_t)&offset);
 }
 
 static void build_as_stored(void)
@@ -311,7 +311,7 @@ static void start(unsigned s)
     memset(out, 0xEE, sizeof out);
     memset(&status, 0xEE, sizeof status);
     memset(&thresholds, 0xEE, sizeof thresholds);
-    written = selects = 0xEEEEEEEE;
+    written = selects = offset = 0xEEEEEEEE;
 }
 
 void prepare(unsigned call, unsigned on_shelf)

@@ -21,6 +21,7 @@ enum { OK = 1, CRITICAL = 2, NONCRITICAL = 3, NOT_KNOWN = 6, HIGHEST_CODE = 8 };
 
 /* Settings, control elements and status elements as one number, byte 0 highest. */
 #define SELECT 0x80000000u
+#define CODE 0x0F000000u
 #define SWAP 0x10000000u /* RST SWAP in a control element */
 #define FAN_ON 0x00000020u
 #define FAN_OFF 0x00000010u
@@ -61,12 +62,13 @@ static bool all_zero(const uint8_t *p, size_t length)
     return true;
 }
 
-static bool printable(const uint8_t *text, size_t length)
+/* How many bytes are printable before the first that is not. */
+static size_t printable_length(const uint8_t *text, size_t length)
 {
-    for (size_t i = 0; i < length; i++)
-        if (text[i] < 0x20 || text[i] > 0x7E)
-            return false;
-    return true;
+    size_t i = 0;
+    while (i < length && text[i] >= 0x20 && text[i] <= 0x7E)
+        i++;
+    return i;
 }
 
 /* Well-formed shelves. */
@@ -125,7 +127,7 @@ static bool element_formed(uint8_t type, const uint8_t *element)
 static bool type_formed(const uint8_t *type)
 {
     unsigned length = type[2];
-    return served(type[0]) && length <= MOST_TEXT && type[3] == 0 && printable(type + TEXT, length) &&
+    return served(type[0]) && length <= MOST_TEXT && type[3] == 0 && printable_length(type + TEXT, length) == length &&
            all_zero(type + TEXT + length, MOST_TEXT - length);
 }
 
@@ -190,18 +192,30 @@ static void put_header(uint8_t *page, uint8_t code, const uint8_t *front, size_t
     memcpy(page + 4, front, 4);
 }
 
-/* Refusals 2 to 5 of a page with these slots. */
+/* Refusals 2, 3, 4, 12, 5 of a page with these slots. */
 static uint8_t header_refusal(const uint8_t *page, size_t length, uint8_t code, const uint8_t *front, unsigned slots)
 {
     if (length < 4)
         return SES_PAGE_TOO_SHORT;
     if (page[0] != code)
         return SES_PAGE_CODE;
-    if (length != number2(page + 2) + 4 || length != SLOTS + SLOT_LENGTH * slots)
+    if (length != number2(page + 2) + 4)
         return SES_PAGE_LENGTH;
+    if (length != SLOTS + SLOT_LENGTH * slots)
+        return SES_NEEDED_LENGTH;
     if (memcmp(page + 4, front, 4) != 0)
         return SES_GENERATION;
     return SES_ACCEPTED;
+}
+
+/* What a page is refused for with 6 is told by the offset of its first offending byte, 0 if there is none: byte 0 never offends.
+ * In a slot it is the first byte that has some of the wrong bits. */
+static uint32_t slot_offence(const uint8_t *page, const uint8_t *slot, uint32_t wrong)
+{
+    uint32_t offset = (uint32_t)(slot - page);
+    for (; wrong >> 24 == 0; wrong <<= 8)
+        offset++;
+    return offset;
 }
 
 /* The configuration page. */
@@ -253,9 +267,9 @@ uint8_t plain_rewrite_configuration(const uint8_t *configuration, size_t configu
 }
 
 /* The page may tell of up to 255 types here: values are tested after the length. */
-static bool configuration_length_right(const uint8_t *page, size_t length)
+static bool configuration_has_needed_length(const uint8_t *page, size_t length)
 {
-    if (length != number2(page + 2) + 4 || length < HEADERS)
+    if (length < HEADERS)
         return false;
     size_t needed = HEADERS + HEADER_LENGTH * page[10];
     if (length < needed)
@@ -266,31 +280,63 @@ static bool configuration_length_right(const uint8_t *page, size_t length)
     return length == needed;
 }
 
-static bool configuration_allowed(const uint8_t *page)
+static uint32_t fixed_part_offence(const uint8_t *page)
 {
-    if (page[1] != 0 || page[8] != 0x11 || page[9] != 0 || page[10] < 1 || page[10] > MOST_TYPES || page[11] != 0x24)
-        return false;
-    const uint8_t *end = page + HEADERS + HEADER_LENGTH * page[10], *text = end;
+    if (page[1] != 0)
+        return 1;
+    if (page[8] != 0x11)
+        return 8;
+    if (page[9] != 0)
+        return 9;
+    if (page[10] < 1 || page[10] > MOST_TYPES)
+        return 10;
+    return page[11] != 0x24 ? 11 : 0;
+}
+
+/* The byte of a header that offends first, with this many elements up to its type, or HEADER_LENGTH. */
+static unsigned header_offence(const uint8_t *header, unsigned elements)
+{
+    if (!served(header[0]))
+        return 0;
+    if (elements > MOST_ELEMENTS)
+        return 1;
+    if (header[2] != 0)
+        return 2;
+    return header[3] > MOST_TEXT ? 3 : HEADER_LENGTH;
+}
+
+/* The texts go on to the end of the page. */
+static uint32_t configuration_offence(const uint8_t *page, size_t length)
+{
+    uint32_t offset = fixed_part_offence(page);
+    if (offset != 0)
+        return offset;
+    uint32_t end = HEADERS + HEADER_LENGTH * page[10];
     unsigned elements = 0;
-    for (const uint8_t *header = page + HEADERS; header < end; header += HEADER_LENGTH) {
-        if (!served(header[0]) || header[2] != 0 || header[3] > MOST_TEXT || !printable(text, header[3]))
-            return false;
-        elements += header[1];
-        text += header[3];
+    for (offset = HEADERS; offset < end; offset += HEADER_LENGTH) {
+        elements += page[offset + 1];
+        unsigned at = header_offence(page + offset, elements);
+        if (at < HEADER_LENGTH)
+            return offset + at;
     }
-    return elements <= MOST_ELEMENTS;
+    offset = end + (uint32_t)printable_length(page + end, length - end);
+    return offset < length ? offset : 0;
 }
 
 uint8_t plain_read_configuration(const uint8_t *page, size_t page_length,
-                                 uint8_t configuration[SES_CONFIGURATION_LENGTH])
+                                 uint8_t configuration[SES_CONFIGURATION_LENGTH], uint32_t *offset)
 {
+    *offset = 0;
     if (page_length < 4)
         return SES_PAGE_TOO_SHORT;
     if (page[0] != CONFIGURATION_PAGE)
         return SES_PAGE_CODE;
-    if (!configuration_length_right(page, page_length))
+    if (page_length != number2(page + 2) + 4)
         return SES_PAGE_LENGTH;
-    if (!configuration_allowed(page))
+    if (!configuration_has_needed_length(page, page_length))
+        return SES_NEEDED_LENGTH;
+    *offset = configuration_offence(page, page_length);
+    if (*offset != 0)
         return SES_NOT_ALLOWED;
     const uint8_t *end = page + HEADERS + HEADER_LENGTH * page[10], *text = end;
     uint8_t *type = configuration + TYPES;
@@ -414,26 +460,28 @@ static uint32_t status_bits(uint8_t type)
     }
 }
 
-static bool status_allowed(uint32_t status, uint32_t bits)
+static uint32_t status_wrong(uint32_t status, uint32_t bits)
 {
-    return (status & ~bits) == 0 && (status >> 24 & 0x0F) <= HIGHEST_CODE;
+    return (status & CODE) > (uint32_t)HIGHEST_CODE << 24 ? CODE : status & ~bits;
 }
 
-static bool status_page_allowed(const uint8_t *front, const uint8_t *page)
+static uint32_t status_offence(const uint8_t *front, const uint8_t *page)
 {
     if ((page[1] & ~0x06) != 0)
-        return false;
+        return 1;
     const uint8_t *end = types_end(front), *slot = page + SLOTS;
     for (const uint8_t *type = front + TYPES; type < end; type += TYPE_LENGTH) {
-        uint32_t bits = status_bits(type[0]);
-        if (!status_allowed(number4(slot), 0x0F000000u))
-            return false;
+        uint32_t bits = status_bits(type[0]), wrong = status_wrong(number4(slot), CODE);
+        if (wrong != 0)
+            return slot_offence(page, slot, wrong);
         slot += SLOT_LENGTH;
-        for (unsigned i = 0; i < type[1]; i++, slot += SLOT_LENGTH)
-            if (!status_allowed(number4(slot), bits))
-                return false;
+        for (unsigned i = 0; i < type[1]; i++, slot += SLOT_LENGTH) {
+            wrong = status_wrong(number4(slot), bits);
+            if (wrong != 0)
+                return slot_offence(page, slot, wrong);
+        }
     }
-    return true;
+    return 0;
 }
 
 /* Four bits as four flags, the highest first. */
@@ -486,8 +534,9 @@ static void show(struct ses_shown *shown, uint8_t type, const uint8_t *slot)
 }
 
 uint8_t plain_read_status(const uint8_t *configuration, size_t configuration_length,
-                          const uint8_t *page, size_t page_length, struct ses_status *record)
+                          const uint8_t *page, size_t page_length, struct ses_status *record, uint32_t *offset)
 {
+    *offset = 0;
     int elements = configuration_elements(configuration, configuration_length);
     if (elements < 0)
         return SES_SHELF_NOT_WELL_FORMED;
@@ -495,7 +544,8 @@ uint8_t plain_read_status(const uint8_t *configuration, size_t configuration_len
     uint8_t refusal = header_refusal(page, page_length, STATUS_PAGE, configuration, slots);
     if (refusal != SES_ACCEPTED)
         return refusal;
-    if (!status_page_allowed(configuration, page))
+    *offset = status_offence(configuration, page);
+    if (*offset != 0)
         return SES_NOT_ALLOWED;
     record->noncritical = page[1] >> 2;
     record->critical = page[1] >> 1 & 1;
@@ -668,14 +718,16 @@ uint8_t plain_write_thresholds(const uint8_t *shelf, size_t shelf_length,
 }
 
 /* Refusals 6, 7, 8 of the rows of a page or a record, which have the same form. 6 in any row comes before 7 in any other, and
- * 7 before 8. */
-static uint8_t rows_refusal(const uint8_t *front, const uint8_t *row)
+ * 7 before 8. With 6 the offset is that from the start of page or record. */
+static uint8_t rows_refusal(const uint8_t *front, const uint8_t *start, const uint8_t *row, uint32_t *offset)
 {
     const uint8_t *end = types_end(front);
     bool owned = true, ordered = true;
     for (const uint8_t *type = front + TYPES; type < end; type += TYPE_LENGTH) {
-        if (number4(row) != 0)
+        if (number4(row) != 0) {
+            *offset = slot_offence(start, row, number4(row));
             return SES_NOT_ALLOWED;
+        }
         row += SLOT_LENGTH;
         for (unsigned i = 0; i < type[1]; i++, row += SLOT_LENGTH) {
             owned = owned && thresholds_owned(type[0], row);
@@ -686,8 +738,10 @@ static uint8_t rows_refusal(const uint8_t *front, const uint8_t *row)
 }
 
 uint8_t plain_read_thresholds(const uint8_t *configuration, size_t configuration_length,
-                              const uint8_t *page, size_t page_length, struct ses_thresholds *record)
+                              const uint8_t *page, size_t page_length, struct ses_thresholds *record,
+                              uint32_t *offset)
 {
+    *offset = 0;
     int elements = configuration_elements(configuration, configuration_length);
     if (elements < 0)
         return SES_SHELF_NOT_WELL_FORMED;
@@ -695,9 +749,11 @@ uint8_t plain_read_thresholds(const uint8_t *configuration, size_t configuration
     uint8_t refusal = header_refusal(page, page_length, THRESHOLD_PAGE, configuration, slots);
     if (refusal != SES_ACCEPTED)
         return refusal;
-    if (page[1] != 0)
+    if (page[1] != 0) {
+        *offset = 1;
         return SES_NOT_ALLOWED;
-    refusal = rows_refusal(configuration, page + SLOTS);
+    }
+    refusal = rows_refusal(configuration, page, page + SLOTS, offset);
     if (refusal != SES_ACCEPTED)
         return refusal;
     memset(record->spare, 0, sizeof record->spare);
@@ -718,7 +774,8 @@ uint8_t plain_rewrite_thresholds(const uint8_t *configuration, size_t configurat
     size_t length = SLOTS + SLOT_LENGTH * slots;
     if (number2(record->entries) != slots)
         return SES_WANTED_LIST;
-    uint8_t refusal = rows_refusal(configuration, &record->entry[0].high_critical);
+    uint32_t not_told;
+    uint8_t refusal = rows_refusal(configuration, record->spare, &record->entry[0].high_critical, &not_told);
     if (refusal != SES_ACCEPTED)
         return refusal;
     if (out_length < length)
@@ -758,16 +815,20 @@ static uint8_t asked_refusal(const uint8_t *shelf, const uint8_t *slot)
     return ordered ? SES_ACCEPTED : SES_THRESHOLD_ORDER;
 }
 
-uint8_t plain_apply_thresholds(uint8_t *shelf, size_t shelf_length, const uint8_t *page, size_t page_length)
+uint8_t plain_apply_thresholds(uint8_t *shelf, size_t shelf_length, const uint8_t *page, size_t page_length,
+                               uint32_t *offset)
 {
+    *offset = 0;
     int elements = shelf_elements(shelf, shelf_length);
     if (elements < 0)
         return SES_SHELF_NOT_WELL_FORMED;
     uint8_t refusal = header_refusal(page, page_length, THRESHOLD_PAGE, shelf, slots_of(shelf, elements));
     if (refusal != SES_ACCEPTED)
         return refusal;
-    if (page[1] != 0)
+    if (page[1] != 0) {
+        *offset = 1;
         return SES_NOT_ALLOWED;
+    }
     refusal = asked_refusal(shelf, page + SLOTS);
     if (refusal != SES_ACCEPTED)
         return refusal;
@@ -790,23 +851,25 @@ static uint32_t settings_bits(uint8_t type)
     return type == COOLING ? FAN_SETTINGS : SENSOR_SETTINGS;
 }
 
-static bool control_allowed(uint32_t control, uint32_t bits)
+static uint32_t control_wrong(uint32_t control, uint32_t bits)
 {
-    return (control & SELECT) == 0 || (control & ~(SELECT | bits)) == 0;
+    return (control & SELECT) == 0 ? 0 : control & ~(SELECT | bits);
 }
 
-static bool control_page_allowed(const uint8_t *shelf, const uint8_t *page)
+static uint32_t control_offence(const uint8_t *shelf, const uint8_t *page)
 {
     if ((page[1] & 0xF0) != 0)
-        return false;
+        return 1;
     const uint8_t *end = types_end(shelf), *slot = page + SLOTS;
     for (const uint8_t *type = shelf + TYPES; type < end; type += TYPE_LENGTH) {
         uint32_t bits = settings_bits(type[0]);
-        for (unsigned i = 0; i <= type[1]; i++, slot += SLOT_LENGTH)
-            if (!control_allowed(number4(slot), bits))
-                return false;
+        for (unsigned i = 0; i <= type[1]; i++, slot += SLOT_LENGTH) {
+            uint32_t wrong = control_wrong(number4(slot), bits);
+            if (wrong != 0)
+                return slot_offence(page, slot, wrong);
+        }
     }
-    return true;
+    return 0;
 }
 
 /* The settings after a selected control element of their type. */
@@ -816,15 +879,18 @@ static uint32_t acted(uint32_t stored, uint32_t control)
     return (control & TAKEN) | (stored & ~control & SWAP) | (speed & SPEED);
 }
 
-uint8_t plain_apply_control(uint8_t *shelf, size_t shelf_length, const uint8_t *page, size_t page_length)
+uint8_t plain_apply_control(uint8_t *shelf, size_t shelf_length, const uint8_t *page, size_t page_length,
+                            uint32_t *offset)
 {
+    *offset = 0;
     int elements = shelf_elements(shelf, shelf_length);
     if (elements < 0)
         return SES_SHELF_NOT_WELL_FORMED;
     uint8_t refusal = header_refusal(page, page_length, CONTROL_PAGE, shelf, slots_of(shelf, elements));
     if (refusal != SES_ACCEPTED)
         return refusal;
-    if (!control_page_allowed(shelf, page))
+    *offset = control_offence(shelf, page);
+    if (*offset != 0)
         return SES_NOT_ALLOWED;
     const uint8_t *end = types_end(shelf), *slot = page + SLOTS;
     uint8_t *element = shelf + ELEMENTS;

@@ -14,11 +14,12 @@ uint8_t plain_write_thresholds(const uint8_t *shelf, size_t shelf_length,
                                uint8_t *out, size_t out_length, uint32_t *written);
 
 uint8_t plain_read_configuration(const uint8_t *page, size_t page_length,
-                                 uint8_t configuration[SES_CONFIGURATION_LENGTH]);
+                                 uint8_t configuration[SES_CONFIGURATION_LENGTH], uint32_t *offset);
 uint8_t plain_read_status(const uint8_t *configuration, size_t configuration_length,
-                          const uint8_t *page, size_t page_length, struct ses_status *record);
+                          const uint8_t *page, size_t page_length, struct ses_status *record, uint32_t *offset);
 uint8_t plain_read_thresholds(const uint8_t *configuration, size_t configuration_length,
-                              const uint8_t *page, size_t page_length, struct ses_thresholds *record);
+                              const uint8_t *page, size_t page_length, struct ses_thresholds *record,
+                              uint32_t *offset);
 
 uint8_t plain_rewrite_configuration(const uint8_t *configuration, size_t configuration_length,
                                     uint8_t *out, size_t out_length, uint32_t *written);
@@ -29,8 +30,10 @@ uint8_t plain_rewrite_thresholds(const uint8_t *configuration, size_t configurat
                                  const struct ses_thresholds *record,
                                  uint8_t *out, size_t out_length, uint32_t *written);
 
-uint8_t plain_apply_control(uint8_t *shelf, size_t shelf_length, const uint8_t *page, size_t page_length);
-uint8_t plain_apply_thresholds(uint8_t *shelf, size_t shelf_length, const uint8_t *page, size_t page_length);
+uint8_t plain_apply_control(uint8_t *shelf, size_t shelf_length, const uint8_t *page, size_t page_length,
+                            uint32_t *offset);
+uint8_t plain_apply_thresholds(uint8_t *shelf, size_t shelf_length, const uint8_t *page, size_t page_length,
+                               uint32_t *offset);
 
 uint8_t plain_build_control(const uint8_t *shelf, size_t shelf_length,
                             const uint8_t *wanted, size_t wanted_length,

@@ -97,9 +97,12 @@ static void put_fans(uint8_t shelf[A_LENGTH], const uint8_t settings[12])
 static void hold_applied(const char *what, const uint8_t stored[12], const uint8_t page[24], const uint8_t wanted[12])
 {
     uint8_t shelf[A_LENGTH], brought[A_LENGTH];
+    uint32_t offset;
     put_fans(shelf, stored);
     put_fans(brought, wanted);
-    hold(what, ses_apply_control(shelf, A_LENGTH, page, 24), 0);
+    fill(&offset, sizeof offset);
+    hold(what, ses_apply_control(shelf, A_LENGTH, page, 24, &offset), 0);
+    hold(what, offset, 0);
     hold_bytes(what, shelf, brought, A_LENGTH);
 }
 

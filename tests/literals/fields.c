@@ -129,8 +129,11 @@ static void hold_status(const char *what)
 {
     struct ses_status record;
     struct output out;
+    uint32_t offset;
     fill(&record, sizeof record);
-    hold(what, ses_read_status(configuration, sizeof configuration, page, PAGE, &record), 0);
+    fill(&offset, sizeof offset);
+    hold(what, ses_read_status(configuration, sizeof configuration, page, PAGE, &record, &offset), 0);
+    hold(what, offset, 0);
     hold_bytes(what, &record, &shown, sizeof record);
     empty(&out);
     hold(what, ses_rewrite_status(configuration, sizeof configuration, &shown, out.bytes, sizeof out.bytes, &out.written), 0);
@@ -150,9 +153,17 @@ static void hold_none(const char *what, uint8_t *none, size_t count)
     }
 }
 
+static void read_types(const uint8_t *types, size_t length)
+{
+    uint32_t offset;
+    fill(&offset, sizeof offset);
+    hold("a configuration", ses_read_configuration(types, length, configuration, &offset), 0);
+    hold("a configuration", offset, 0);
+}
+
 static void hold_shown(void)
 {
-    hold("a configuration", ses_read_configuration(configuration_page, sizeof configuration_page, configuration), 0);
+    read_types(configuration_page, sizeof configuration_page);
     fill(&shown, sizeof shown);
     size_t first_temperature = PUT_ROWS(0, fans);
     size_t first_voltage = PUT_ROWS(first_temperature, temperatures);
@@ -198,14 +209,17 @@ static void hold_thresholds(void)
     };
     struct ses_thresholds record, told;
     struct output out;
-    hold("a configuration", ses_read_configuration(three_types, sizeof three_types, configuration), 0);
+    uint32_t offset;
+    read_types(three_types, sizeof three_types);
     fill(&told, sizeof told);
     memset(told.spare, 0, 2);
     told.entries[0] = 0;
     told.entries[1] = 6;
     memcpy(told.entry, named, sizeof named);
     fill(&record, sizeof record);
-    hold("thresholds", ses_read_thresholds(configuration, sizeof configuration, limits, sizeof limits, &record), 0);
+    fill(&offset, sizeof offset);
+    hold("thresholds", ses_read_thresholds(configuration, sizeof configuration, limits, sizeof limits, &record, &offset), 0);
+    hold("thresholds", offset, 0);
     hold_bytes("thresholds", &record, &told, sizeof record);
     /* What is spare is not looked at. */
     fill(told.spare, 2);

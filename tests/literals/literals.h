@@ -1,7 +1,8 @@
 /* What the files of this folder share.
  *
  * Expected numbers and bytes are document 01's, or worked out from its rules in a comment beside them. Shelf blocks and records are
- * laid out as docs/LAYOUT.md says, by literal places. The words of a meaning are ours; which number they are for is document 01's. */
+ * laid out as docs/LAYOUT.md says, by literal places. The words of a meaning are ours; which number they are for is document 01's,
+ * for 12 request One's. */
 #ifndef LITERALS_H
 #define LITERALS_H
 

@@ -10,7 +10,7 @@ use borrow.Author.Tests.{not-true, le-ltb, lt-ltb, ltb-true, ltb-false}
 use mir.Val.{Fits}
 use mir.Syntax.{w8}
 use lib.Dec.{ltb}
-use Rattle.bits.specs.Choice.{pick, firstOf, allBelow, firstBelow}
+use Rattle.bits.specs.Choice.{pick, firstOf, firstOfFour, allBelow, firstBelow}
 
 pub never : {A : Type 0} → true ≡ false → A
 never e = let z : _≡_ {A = ℕ} 0 1 = cc in absurd (omega arith)
@@ -161,6 +161,22 @@ all-four false b c d e = absurd (omega arith)
 pub four-pass : {a b c d : Bool} → a ≡ true → b ≡ true → c ≡ true → d ≡ true → firstOf a b c d ≡ 4
 unfolding firstOf
 four-pass p q r s = rw (p, q, r, s)
+
+-- of a test of four bytes: its alike, and where it fails first
+pub four-alike : {f g : ℕ → Bool} → ((j : ℕ) → f j ≡ g j) → firstOfFour f ≡ firstOfFour g
+four-alike h = λ i. firstOf (h 0 i) (h 1 i) (h 2 i) (h 3 i)
+
+pub four-first : (f : ℕ → Bool) → firstOfFour f ≡ firstBelow (fails f) 4
+unfolding firstOf
+four-first f = go (f 0) refl (f 1) refl (f 2) refl (f 3) refl
+  where
+    go : (a : Bool) → f 0 ≡ a → (b : Bool) → f 1 ≡ b → (c : Bool) → f 2 ≡ c → (d : Bool) → f 3 ≡ d
+        → pick a (pick b (pick c (pick d 4 3) 2) 1) 0 ≡ firstBelow (fails f) 4
+    go true p true q true r true s = sym (rw (p, q, r, s))
+    go true p true q true r false s = sym (rw (p, q, r, s))
+    go true p true q false r d s = sym (rw (p, q, r))
+    go true p false q c r d s = sym (rw (p, q))
+    go false p b q c r d s = sym (rw p)
 
 -- the first of four is one of them, or 4
 pub first-small : (a b c d : Bool) → firstOf a b c d ≤ 4

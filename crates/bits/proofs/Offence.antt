@@ -1,11 +1,14 @@
 -- The search for the first refused byte of rows of four: where it stops, and what it says if it finds none. Assumes nothing.
-use mathlib.Core.Path.{_≡_, refl, sym, _∙_}
-use mathlib.Core.Bool.{Bool, true, false}
-use Prim.Native.Nat.{ℕ, _+_, _<_, _≤_}
+use mathlib.Core.Path.{_≡_, refl, sym, ap, _∙_}
+use mathlib.Core.Bool.{Bool, true, false, not}
+use mathlib.Core.List.{List}
+use Prim.Native.Nat.{ℕ, zero, suc, _+_, _<_, _≤_}
 use native.Mathlib.Omega.{arith}
+use lib.ListN.{getD}
 use borrow.Author.Tests.{ltb-true, lt-ltb, le-ltb}
 use Rattle.bits.specs.Choice.{pick, allBelow, firstBelow, refusedIn, offenceIn}
-use Rattle.bits.proofs.Logic.{pick-yes, fails, first-at, first-none, first-passes, first-fails}
+use Rattle.bits.specs.Places.{fourAt, AlikeTo}
+use Rattle.bits.proofs.Logic.{pick-yes, fails, below-all, first-at, first-none, first-passes, first-fails}
 
 module _ (at g : ℕ → ℕ) (n : ℕ) where
   -- it stopped at row i
@@ -35,3 +38,21 @@ module _ (at g : ℕ → ℕ) (n : ℕ) where
 
     pub row-fine : (i : ℕ) → i < n → refusedIn g i ≡ false
     row-fine i l = first-fails (refusedIn g) n i (omega (arith, l, none-first))
+
+-- rows that are refused alike
+pub offence-alike : (at : ℕ → ℕ) {g h : ℕ → ℕ} (n : ℕ) → ((i : ℕ) → g i ≡ h i) → offenceIn at g n ≡ offenceIn at h n
+offence-alike at n e = λ i. offenceIn at (λ k. e k i) n
+
+-- a search that stopped at k stops there too if nothing up to k is otherwise
+pub stops-alike : (f g : ℕ → Bool) (n : ℕ) → firstBelow f n < n → ((k : ℕ) → k ≤ firstBelow f n → f k ≡ g k) → firstBelow g n ≡ firstBelow f n
+stops-alike f g n l e =
+    let k = firstBelow f n in
+    first-at g n k l (below-all (fails g) k (λ j m. ap not (sym (e j (omega arith)) ∙ first-fails f n j m))) (sym (e k (omega arith)) ∙ first-passes f n l)
+
+-- byte j of four, in lists that agree up to it
+pub four-alike-to : (p q : List ℕ) (a j : ℕ) → j < 4 → AlikeTo (a + j) p q → getD (fourAt p a) j 0 ≡ getD (fourAt q a) j 0
+four-alike-to p q a zero l h = h a (omega arith)
+four-alike-to p q a (suc zero) l h = h (a + 1) (omega arith)
+four-alike-to p q a (suc (suc zero)) l h = h (a + 2) (omega arith)
+four-alike-to p q a (suc (suc (suc zero))) l h = h (a + 3) (omega arith)
+four-alike-to p q a (suc (suc (suc (suc j)))) l h = absurd (omega arith)

@@ -11,6 +11,10 @@ pick false a b = b
 unfoldable pub firstOf : Bool → Bool → Bool → Bool → ℕ
 firstOf a b c d = pick a (pick b (pick c (pick d 4 3) 2) 1) 0
 
+-- the first of four bytes at which the test f fails, 4 if it passes at all
+abbrev pub firstOfFour : (ℕ → Bool) → ℕ
+firstOfFour f = firstOf (f 0) (f 1) (f 2) (f 3)
+
 -- the test f passes at each number below n
 abbrev pub allBelow : (ℕ → Bool) → ℕ → Bool
 allBelow f zero = true

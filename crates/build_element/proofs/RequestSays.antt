@@ -16,7 +16,8 @@ use Rattle.element.specs.Types.{layoutOf}
 use Rattle.element.specs.Settings.{settingsOf, settingsBytes}
 use Rattle.element_control.specs.Control.{selected, unselected, requesting, controlOf, offending}
 use Rattle.element.proofs.SettingsBothWays.{first-clear, second-clear, third-clear, fourth-clear}
-use Rattle.element.proofs.StoredSettings.{sound, reserved-unnamed, Storable, settings-back, length-bytes}
+use Rattle.element_control.proofs.FirstRefused.{offends-reserved}
+use Rattle.element.proofs.StoredSettings.{sound, reserved-named, Storable, settings-back, length-bytes}
 use Rattle.build_element.specs.Wishes.{silent, withSelect, requestBytes}
 use Rattle.build_element.proofs.SoundLayout.{heading, first-small, rest-same}
 
@@ -36,10 +37,11 @@ module _ (k : Kind) (r : Settings) where
   request-selected = head-selects (getD (settingsBytes k r) 0 0) (first-small k r)
 
   pub request-fine : offending k (requestBytes k r) ≡ 4
-  unfolding offending requestBytes settingsBytes
+  unfolding requestBytes settingsBytes
   request-fine =
-      pick-yes (bit 7 (128 + getD (settingsBytes k r) 0 0)) _ 4 (head-selects (getD (settingsBytes k r) 0 0) (first-small k r))
-      ∙ sym (reserved-unnamed k (withSelect (settingsBytes k r)))
+      offends-reserved k (requestBytes k r)
+      ∙ pick-yes (bit 7 (128 + getD (settingsBytes k r) 0 0)) _ 4 (head-selects (getD (settingsBytes k r) 0 0) (first-small k r))
+      ∙ sym (reserved-named k (withSelect (settingsBytes k r)))
       ∙ four-pass head-only-at (second-clear (layoutOf k) (sound k) r) (third-clear (layoutOf k) (sound k) r) (fourth-clear (layoutOf k) (sound k) r)
 
   pub request-length : length (requestBytes k r) ≡ 4
@@ -68,5 +70,4 @@ unfolding controlOf
 silent-control k = refl
 
 pub silent-fine : (k : Kind) → offending k silent ≡ 4
-unfolding offending
-silent-fine k = refl
+silent-fine k = offends-reserved k silent

@@ -18,7 +18,8 @@ use Rattle.element.specs.Requests.{speedAfter, acted}
 use Rattle.element_control.specs.Control.{selected, offending}
 use Rattle.build_element.specs.Wishes.{withSelect, requestBytes, requestFor}
 use Rattle.element.proofs.SettingsBothWays.{again}
-use Rattle.element.proofs.StoredSettings.{sound, reserved-unnamed}
+use Rattle.element.proofs.StoredSettings.{sound, reserved-named}
+use Rattle.element_control.proofs.FirstRefused.{offends-reserved}
 use Rattle.build_element.proofs.SoundLayout.{heading, rest-same}
 
 head-rest : (a : ℕ) → a < 256 → heading a ≡ true → only (6 ∷ 5 ∷ 4 ∷ []) (a - 128) ≡ true
@@ -30,10 +31,10 @@ head-high a h e = eqb-true (128 + (a - 128)) a (byByteIf heading (λ a. eqb (128
 -- a selected element without a reserved bit is the one that asks for what it says
 pub request-again : (k : Kind) (a b c d : ℕ) → a < 256 → d < 256 → selected (a ∷ b ∷ c ∷ d ∷ []) ≡ true → offending k (a ∷ b ∷ c ∷ d ∷ []) ≡ 4
     → requestBytes k (settingsOf k (a ∷ b ∷ c ∷ d ∷ [])) ≡ a ∷ b ∷ c ∷ d ∷ []
-unfolding requestBytes offending settingsBytes settingsOf
+unfolding requestBytes settingsBytes settingsOf
 request-again k a b c d ha hd t e =
     let l = layoutOf k in
-    let u = reserved-unnamed k (a ∷ b ∷ c ∷ d ∷ []) ∙ sym (pick-yes _ _ _ t) ∙ e in
+    let u = reserved-named k (a ∷ b ∷ c ∷ d ∷ []) ∙ sym (offends-reserved k (a ∷ b ∷ c ∷ d ∷ []) ∙ pick-yes _ _ _ t) ∙ e in
     let h = all-four (only (7 ∷ 6 ∷ 5 ∷ 4 ∷ []) a) (within (l .flags1) b) (within (l .flags2) c) (within (bitOr (l .flags3) (l .speed)) d) u in
     let g : heading a ≡ true = rw (t, h .0) in
     let r = again l (sound k) (a - 128) b c d (omega arith) hd (head-rest a ha g) (h .1) (h .2) (h .3) in

@@ -22,8 +22,7 @@ use Rattle.build_order.specs.Search.{cost, best}
 use Rattle.build_order.proofs.BestRow.{best-row}
 use Rattle.build_order.proofs.ByCount.{after-refl, after-append}
 use Rattle.element.specs.declared.types.Kind.{Kind}
-use Rattle.element_control.specs.Control.{selected, offending, controlOf, chosen, settled}
-use Rattle.element.proofs.StoredSettings.{reserved-unnamed}
+use Rattle.element_control.specs.Control.{offending, controlOf, chosen, settled}
 use Rattle.build_element.specs.Wishes.{one}
 use Rattle.build_element.specs.Parts.{selects, under, part}
 use Rattle.build_element.proofs.FirstElement.{Row, one-row}
@@ -36,7 +35,8 @@ use Rattle.shelf_formed.proofs.ElementTypes.{front-formed}
 use Rattle.page.specs.Slots.{slotsOf, startOf, slotType, slotAt, slotPlace}
 use Rattle.page.specs.Places.{placesOf}
 use Rattle.page.proofs.SlotsBefore.{start-none, start-next, start-up}
-use Rattle.control_page.specs.Tests.{slotOffending, valid}
+use Rattle.control_page.specs.Tests.{valid}
+use Rattle.control_page.proofs.FirstOffence.{slotOffending}
 use Rattle.control_page.specs.Brought.{settingsAfter, broughtTo}
 use Rattle.control_page.proofs.ValidPage.{valid-formed, valid-slot}
 use Rattle.control_page.proofs.PageActs.{after-length}
@@ -53,11 +53,7 @@ sum-one f = omega arith
 
 four-or-less : (k : Kind) (c : List ℕ) → offending k c ≤ 4
 unfolding offending
-four-or-less k c = go (selected c) (rw (← (reserved-unnamed k c)) (first-small _ _ _ _))
-  where
-    go : (t : Bool) {n : ℕ} → n ≤ 4 → pick t n 4 ≤ 4
-    go true h = h
-    go false h = omega arith
+four-or-less k c = first-small _ _ _ _
 
 -- each slot of the page is a control element of its type
 pub rowFor-row : (s w : List ℕ) (i : ℕ) → Row (slotAt s i .kind) (rowFor s w i)

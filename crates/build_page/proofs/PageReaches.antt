@@ -30,9 +30,10 @@ use Rattle.page.specs.Header.{pageTested, header}
 use Rattle.page.proofs.SlotBounds.{slots-bound}
 use Rattle.page.proofs.ElementSlots.{own-there, overall-there}
 use Rattle.page.proofs.HeaderBothWays.{head-written}
-use Rattle.control_page.specs.Tests.{slotOffending, valid}
+use Rattle.control_page.specs.Tests.{firstAllows, valid}
+use Rattle.control_page.proofs.FirstOffence.{slotOffending}
 use Rattle.control_page.specs.Brought.{settingsAfter, broughtTo}
-use Rattle.control_page.proofs.ValidPage.{firstFine, parts-valid}
+use Rattle.control_page.proofs.ValidPage.{parts-valid}
 use Rattle.build_page.specs.Page.{typeKind, storedIn, wantedIn, overallIn, rowFor, controlPage}
 use Rattle.build_page.proofs.SlotsByType.{overall-row, element-row, own-slot, overall-slot, element-kind-at}
 use Rattle.build_page.proofs.FirstSlots.{rowFor-row, rowFor-length, brought}
@@ -46,7 +47,7 @@ module _ (s w : List ℕ) (f : wellFormed s ≡ true) where
   unfolding pageTested controlPage
   headed-made = rw f (head-written (rowFor s w) (rowFor-length s w) s 0x02 0 (slotsOf s) (omega (arith, slots-bound s ff)))
 
-  first : firstFine (controlPage s w) ≡ true
+  first : firstAllows (controlPage s w) ≡ true
   unfolding controlPage header
   first = refl
 

@@ -10,7 +10,7 @@ use borrow.Author.Tests.{eqb-true, not-false}
 use Rattle.bits.specs.Bits.{printable}
 use Rattle.bits.proofs.Logic.{and-left, and-right, first-fails}
 use Rattle.element.specs.Types.{served}
-use Rattle.refusals.specs.declared.Answer.the-variants.{Accepted}
+use Rattle.refusals.specs.declared.PageAnswer.the-variants.{Accepted}
 use Rattle.shelf.specs.Limits.{mostTypes, mostElements, mostInType, mostText}
 use Rattle.page.specs.Header.{lengthSaid}
 use Rattle.configuration_page.specs.Page.{headerPlace}

@@ -9,3 +9,4 @@ pub mod WrittenAndRead
 pub mod PlacesInConfiguration
 pub mod ReadAndRewritten
 pub mod PageOfFront
+pub mod AlikeUpTo

@@ -9,7 +9,7 @@ use Rattle.bits.specs.Numbers.{bytes, Bytes}
 use Rattle.bits.specs.Rows.{joined, bytesAt}
 use Rattle.bits.proofs.Rows.{joined-same, bytes-same}
 use Rattle.bits.proofs.RowStarts.{start-same}
-use Rattle.refusals.specs.declared.Answer.the-variants.{Accepted}
+use Rattle.refusals.specs.declared.PageAnswer.the-variants.{Accepted}
 use Rattle.shelf.specs.Limits.{mostTypes, textPlace}
 use Rattle.shelf.specs.Types.{typesOf, textLength}
 use Rattle.shelf_formed.specs.Formed.{frontFormed, wellFormed}

@@ -21,7 +21,7 @@ use Rattle.bits.proofs.RowStarts.{start-first, start-step, start-behind, start-
 use Rattle.bits.proofs.Sums.{sum-same}
 use Rattle.bits.proofs.Widths.{bytes-big}
 use Rattle.element.specs.Types.{served}
-use Rattle.refusals.specs.declared.Answer.the-variants.{Accepted}
+use Rattle.refusals.specs.declared.PageAnswer.the-variants.{Accepted}
 use Rattle.shelf.specs.Limits.{mostTypes, mostElements, mostInType, mostText, typeSize, typePlace, textPlace, elementPlace}
 use Rattle.shelf.specs.Types.{typesOf, typeCode, typeCount, textLength, before, elementsOf}
 use Rattle.shelf_formed.specs.Formed.{headFormed, textByteFormed, textFormed, typeFormed, typeByteEmpty, typeEmpty, slotFormed, typesFormed, frontFormed, configurationFormed}

@@ -5,7 +5,7 @@ use mathlib.Core.Logic.{_⊎_, inl, inr}
 use mathlib.Core.List.{List}
 use Prim.Native.Nat.{ℕ, _+_, _-_, _/_, _%_, _<_, _≤_}
 use native.Mathlib.Omega.{arith}
-use lib.Dec.{eqb, leb}
+use lib.Dec.{leb}
 use lib.ListN.{length, getD}
 use borrow.Author.Tests.{lt-ltb, le-ltb, le-leb, leb-true, leb-false, eq-eqb, ne-eqb, eqb-true}
 use mir.Val.{Fits}
@@ -15,13 +15,15 @@ use Rattle.bits.specs.Numbers.{big}
 use Rattle.bits.specs.Places.{twoAt}
 use Rattle.bits.proofs.Logic.{pick-yes, pick-no}
 use Rattle.bits.proofs.RowStarts.{start-behind}
-use Rattle.refusals.specs.declared.Refusal.the-variants.{PageLength, NotAllowed}
+use Rattle.refusals.specs.declared.Refusal.the-variants.{NeededLength}
 use Rattle.refusals.specs.declared.Refusal.{Refusal}
 use Rattle.refusals.specs.declared.Answer.{Answer}
 use Rattle.refusals.specs.declared.Answer.the-variants.{Accepted, Refused}
-use Rattle.refusals.specs.Outcomes.{unless, next}
-use Rattle.refusals.proofs.AcceptedTests.{held, not-held, held-both}
-use Rattle.refusals.proofs.Stages.{stopped, gone-on}
+use Rattle.refusals.specs.declared.PageAnswer.{PageAnswer}
+use Rattle.refusals.specs.declared.PageAnswer.the-variants as page
+use Rattle.refusals.specs.Outcomes.{ofPage, offenceTested, pageNext}
+use Rattle.refusals.proofs.AcceptedTests.{held, not-held, held-page, held-offence}
+use Rattle.refusals.proofs.Stages.{page-stopped, page-gone-on}
 use Rattle.page.specs.Header.{lengthSaid, framed, lengthTested}
 use Rattle.page.proofs.HeaderTests.{frame-passed, length-passed, length-needed}
 use Rattle.page.proofs.HeaderBothWays.{frame-parts}
@@ -64,12 +66,12 @@ headers-there p e = omega (arith, start-behind (headerPlace (typesOn p)) (header
 -- a page without all its headers is shorter than they need
 module _ (p : List ℕ) {n : ℕ} {a : Answer} (h : a ≡ roomTested p n) where
   pub room-there : a ≡ Accepted → n ≤ length p
-  room-there u = leb-true n (length p) (held (leb n (length p)) PageLength Accepted (sym h ∙ u) .0)
+  room-there u = leb-true n (length p) (held (leb n (length p)) NeededLength Accepted (sym h ∙ u) .0)
 
   pub no-headers : {r : Refusal} → n ≤ headerPlace (typesOn p) → a ≡ Refused r → a ≡ lengthTested p (neededLength p)
   unfolding lengthTested
   no-headers l u =
-      let e = not-held (leb n (length p)) PageLength h u in
+      let e = not-held (leb n (length p)) NeededLength h u in
       let f = leb-false n (length p) (e .0) in
       u ∙ ap Refused (e .1) ∙ sym (pick-no _ _ _ (ne-eqb (length p) (neededLength p) (λ k. omega (arith, headers-there p k))))
 
@@ -79,53 +81,45 @@ unfolding lengthSaid
 length-small p f e = record { fits = omega (arith, eqb-true (length p) (big (twoAt p 2) + 4) e, f 2 .fits, f 3 .fits) }
 
 -- the page's own tests
-module _ (p : List ℕ) {n k : ℕ} (e : length p ≡ n) (x : k ≡ firstBelow (offends p) n) where
-  pub byte-refused : (k ≡ n → ⊥) → Refused NotAllowed ≡ bytesTested p
-  unfolding bytesTested
-  byte-refused t = rw (ne-eqb (firstOffence p) (length p) (λ q. t (x ∙ found p e ∙ q ∙ e)))
-
-  pub bytes-passed : k ≡ n → Accepted ≡ bytesTested p
-  unfolding bytesTested
-  bytes-passed t = rw (eq-eqb (firstOffence p) (length p) (sym (found p e) ∙ sym x ∙ t ∙ sym e))
+pub bytes-tested : (p : List ℕ) {n k : ℕ} {r : PageAnswer} → length p ≡ n → k ≡ firstBelow (offends p) n → r ≡ offenceTested k n Accepted → r ≡ bytesTested p
+unfolding bytesTested
+bytes-tested p e x q = q ∙ rw (x ∙ found p e, ← e)
 
 -- all of them, one after the other
 module _ (p : List ℕ) where
-  abbrev rest : Answer
-  rest = next (lengthTested p (neededLength p)) (bytesTested p)
+  abbrev rest : PageAnswer
+  rest = pageNext (lengthTested p (neededLength p)) (bytesTested p)
 
   module _ {a : Answer} (f : a ≡ framed p 0x01) where
-    pub frame-refused : {r : Refusal} → a ≡ Refused r → a ≡ configurationRead p
+    pub frame-refused : {r : Refusal} {o : PageAnswer} → a ≡ Refused r → o ≡ ofPage a → o ≡ configurationRead p
     unfolding configurationRead
-    frame-refused u = stopped (framed p 0x01) rest f u
+    frame-refused u q = page-stopped (framed p 0x01) rest f u q
 
     module _ (u : a ≡ Accepted) {b : Answer} (l : b ≡ lengthTested p (neededLength p)) where
-      pub length-refused : {r : Refusal} → b ≡ Refused r → b ≡ configurationRead p
+      pub length-refused : {r : Refusal} {o : PageAnswer} → b ≡ Refused r → o ≡ ofPage b → o ≡ configurationRead p
       unfolding configurationRead
-      length-refused v = gone-on (framed p 0x01) rest f u (stopped (lengthTested p (neededLength p)) (bytesTested p) l v)
+      length-refused v q = page-gone-on (framed p 0x01) rest f u (page-stopped (lengthTested p (neededLength p)) (bytesTested p) l v q)
 
       module _ (v : b ≡ Accepted) where
         -- what the page's own tests are given
         pub length-known : (lengthSaid p ≡ true) × (length p ≡ neededLength p)
         length-known = (frame-parts p 0x01 (sym f ∙ u) .1, length-needed p (neededLength p) (sym l ∙ v))
 
-        pub bytes-last : {d : Answer} → d ≡ bytesTested p → d ≡ configurationRead p
+        pub bytes-last : {d : PageAnswer} → d ≡ bytesTested p → d ≡ configurationRead p
         unfolding configurationRead
-        bytes-last e = gone-on (framed p 0x01) rest f u (gone-on (lengthTested p (neededLength p)) (bytesTested p) l v e)
+        bytes-last e = page-gone-on (framed p 0x01) rest f u (page-gone-on (lengthTested p (neededLength p)) (bytesTested p) l v e)
 
-  pub read-parts : configurationRead p ≡ Accepted
+  pub read-parts : configurationRead p ≡ page.Accepted
       → (getD p 0 0 ≡ 0x01) × (lengthSaid p ≡ true) × (length p ≡ neededLength p) × (firstOffence p ≡ length p)
   unfolding configurationRead bytesTested
   read-parts e =
-      let t = eqb (firstOffence p) (length p) in
-      let r2 : Answer = unless t NotAllowed Accepted in
-      let h1 = held-both (framed p 0x01) (next (lengthTested p (neededLength p)) r2) e in
-      let h2 = held-both (lengthTested p (neededLength p)) r2 (h1 .1) in
+      let h1 = held-page (framed p 0x01) rest e in
+      let h2 = held-page (lengthTested p (neededLength p)) (bytesTested p) (h1 .1) in
       let f = frame-parts p 0x01 (h1 .0) in
-      let o = eqb-true (firstOffence p) (length p) (held t NotAllowed Accepted (h2 .1) .0) in
-      (f .0, f .1, length-needed p (neededLength p) (h2 .0), o)
+      (f .0, f .1, length-needed p (neededLength p) (h2 .0), held-offence (firstOffence p) (length p) Accepted (h2 .1) .0)
 
   pub parts-read : 4 ≤ length p → getD p 0 0 ≡ 0x01 → lengthSaid p ≡ true → length p ≡ neededLength p → firstOffence p ≡ length p
-      → configurationRead p ≡ Accepted
+      → configurationRead p ≡ page.Accepted
   unfolding configurationRead bytesTested
   parts-read h c s l o =
       let f = frame-passed p 0x01 (le-leb 4 (length p) h) (eq-eqb (getD p 0 0) 0x01 c) s in

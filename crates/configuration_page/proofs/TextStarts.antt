@@ -15,7 +15,7 @@ use Rattle.bits.proofs.Parts.{zeros-behind}
 use Rattle.bits.proofs.Rows.{joined-same}
 use Rattle.bits.proofs.RowStarts.{row-in, start-bound, start-same}
 use Rattle.bits.proofs.Sums.{sum-same, sum-past}
-use Rattle.refusals.specs.declared.Answer.the-variants.{Accepted}
+use Rattle.refusals.specs.declared.PageAnswer.the-variants.{Accepted}
 use Rattle.shelf.specs.Limits.{mostTypes, mostText}
 use Rattle.configuration_page.specs.Page.{headerPlace}
 use Rattle.configuration_page.specs.Read.{typesOn, headerByte, textPlaceOn, configurationRead}

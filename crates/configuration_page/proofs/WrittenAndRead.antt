@@ -20,7 +20,7 @@ use Rattle.bits.proofs.Parts.{pieces, get-behind, bytes-split, bytes-rows}
 use Rattle.bits.proofs.Rows.{joined-same, bytes-get, bytes-there, bytes-same, four-bytes}
 use Rattle.bits.proofs.Sums.{sum-part}
 use Rattle.bits.proofs.Widths.{big-bytes}
-use Rattle.refusals.specs.declared.Answer.the-variants.{Accepted}
+use Rattle.refusals.specs.declared.PageAnswer.the-variants.{Accepted}
 use Rattle.shelf.specs.Limits.{mostTypes, mostElements, mostText, typeSize, typePlace, textPlace, elementPlace}
 use Rattle.shelf.specs.Types.{typesOf, typeCount, textLength, before, elementsOf}
 use Rattle.shelf_formed.specs.Formed.{frontFormed, wellFormed, configurationFormed}

@@ -8,10 +8,11 @@ use Rattle.bits.specs.Bits.{printable}
 use Rattle.bits.specs.Choice.{pick, firstBelow, sumBelow}
 use Rattle.bits.specs.Rows.{rowStart}
 use Rattle.element.specs.Types.{served}
-use Rattle.refusals.specs.declared.Refusal.the-variants.{PageLength, NotAllowed}
+use Rattle.refusals.specs.declared.Refusal.the-variants.{NeededLength}
 use Rattle.refusals.specs.declared.Answer.{Answer}
+use Rattle.refusals.specs.declared.PageAnswer.{PageAnswer}
 use Rattle.refusals.specs.declared.Answer.the-variants.{Accepted}
-use Rattle.refusals.specs.Outcomes.{unless, next}
+use Rattle.refusals.specs.Outcomes.{unless, offenceTested, pageNext}
 use Rattle.shelf.specs.Limits.{mostTypes, mostElements, mostInType, mostText}
 use Rattle.page.specs.Header.{framed, lengthTested}
 use Rattle.configuration_page.specs.Page.{headerPlace}
@@ -70,14 +71,14 @@ offenceBelow p n = firstBelow (offends p) n
 unfoldable pub firstOffence : List ℕ → ℕ
 firstOffence p = firstBelow (offends p) (length p)
 
--- 4: fewer than n bytes
+-- 12: fewer than n bytes
 abbrev pub roomTested : List ℕ → ℕ → Answer
-roomTested p n = unless (leb n (length p)) PageLength Accepted
+roomTested p n = unless (leb n (length p)) NeededLength Accepted
 
--- 6: a byte offends
-unfoldable pub bytesTested : List ℕ → Answer
-bytesTested p = unless (eqb (firstOffence p) (length p)) NotAllowed Accepted
+-- 6: a byte offends, and the first is told
+unfoldable pub bytesTested : List ℕ → PageAnswer
+bytesTested p = offenceTested (firstOffence p) (length p) Accepted
 
--- 2, 3, 4: the frame; 4: not the length that the type list needs; 6: a byte offends
-unfoldable pub configurationRead : List ℕ → Answer
-configurationRead p = next (framed p 0x01) (next (lengthTested p (neededLength p)) (bytesTested p))
+-- 2, 3, 4: the frame; 12: not the length that the type list needs; 6: a byte offends
+unfoldable pub configurationRead : List ℕ → PageAnswer
+configurationRead p = pageNext (framed p 0x01) (pageNext (lengthTested p (neededLength p)) (bytesTested p))

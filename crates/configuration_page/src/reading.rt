@@ -6,6 +6,7 @@ use crate::writing;
 use element::types::Kind;
 use page::header;
 use refusals::Answer;
+use refusals::PageAnswer;
 use refusals::Refusal;
 use shelf::limits;
 ghost use mathlib.Core.Path.{_≡_};
@@ -16,7 +17,7 @@ ghost use lib.ListN.{length, replicate};
 ghost use Rattle.bits.specs.Choice.{firstBelow};
 ghost use Rattle.bits.specs.Places.{fourAt};
 ghost use Rattle.bits.specs.Rows.{bytesAt, putBytes, rowsPut};
-ghost use Rattle.refusals.specs.declared.Answer.the-variants.{Accepted};
+ghost use Rattle.refusals.specs.declared.PageAnswer.the-variants.{Accepted};
 ghost use Rattle.refusals.specs.Outcomes.{placed, HandsBack};
 ghost use Rattle.shelf.specs.Limits.{mostTypes, mostText, typePlace, elementPlace, HasTypes};
 ghost use Rattle.page.specs.Header.{lengthSaid, lengthTested};
@@ -156,7 +157,7 @@ fn test_room(page: &[u8], n: u32) -> Answer
     ensures { λ r. ⌜ r ≡ roomTested (now (page .entry)) n ⌝ }
 {
     if page.len() < n as usize {
-        return Answer::Refused(Refusal::PageLength);
+        return Answer::Refused(Refusal::NeededLength);
     }
     Answer::Accepted
 }
@@ -177,28 +178,25 @@ fn test_length(page: &[u8]) -> Answer
 }
 
 // The page's own tests.
-fn test_bytes(page: &[u8]) -> Answer
+fn test_bytes(page: &[u8]) -> PageAnswer
     requires { ⌜ lengthSaid (now page) ≡ true ⌝ }
     requires { ⌜ length (now page) ≡ neededLength (now page) ⌝ }
     ensures { λ r. ⌜ r ≡ bytesTested (now (page .entry)) ⌝ }
 {
     let n = page.len() as u32;
-    if first_offence(page, n) != n {
-        return Answer::Refused(Refusal::NotAllowed);
-    }
-    Answer::Accepted
+    PageAnswer::searched(first_offence(page, n), n)
 }
 
-pub fn test(page: &[u8]) -> Answer
+pub fn test(page: &[u8]) -> PageAnswer
     ensures { λ r. ⌜ r ≡ configurationRead (now (page .entry)) ⌝ }
 {
     let frame = header::test_frame(page, writing::CODE);
     let Answer::Accepted = frame else {
-        return frame;
+        return PageAnswer::of(frame);
     };
     let length = test_length(page);
     let Answer::Accepted = length else {
-        return length;
+        return PageAnswer::of(length);
     };
     test_bytes(page)
 }
@@ -282,11 +280,11 @@ fn hand_over(page: &[u8], configuration: &mut [u8])
     put_types(page, configuration);
 }
 
-pub fn read(page: &[u8], configuration: &mut [u8; limits::CONFIGURATION]) -> Answer
+pub fn read(page: &[u8], configuration: &mut [u8; limits::CONFIGURATION]) -> PageAnswer
     ensures { λ r. ⌜ HandsBack (configurationRead (now (page .entry))) (configurationOf (now (page .entry))) (now (configuration .entry)) r (now (configuration .exit)) ⌝ }
 {
     let tested = test(page);
-    let Answer::Accepted = tested else {
+    let PageAnswer::Accepted = tested else {
         return tested;
     };
     hand_over(page, configuration);

@@ -32,7 +32,8 @@ use Rattle.page.specs.Slots.{slotsOf, slotPlace}
 use Rattle.page.specs.Places.{ownSlot, overallSlot, placesOf}
 use Rattle.page.proofs.ElementSlots.{places-alike, own-there, overall-there}
 use Rattle.page.proofs.SameFront.{slots-alike, slot-alike, tested-alike}
-use Rattle.control_page.specs.Tests.{slotOffending, valid}
+use Rattle.control_page.specs.Tests.{valid}
+use Rattle.control_page.proofs.FirstOffence.{slotOffending}
 use Rattle.control_page.specs.Brought.{actingAt, settingsAfter, broughtTo}
 pub use Rattle.control_page.specs.Brought.{after}
 use Rattle.control_page.proofs.ValidPage.{valid-headed, valid-formed, valid-first, valid-slot, parts-valid}

@@ -3,3 +3,4 @@ pub mod PageActs
 pub mod ValidPage
 pub mod Changes
 pub mod Exactly
+pub mod FirstOffence

@@ -15,9 +15,9 @@ use Rattle.element.specs.Settings.{settingsOf, settingsBytes}
 use Rattle.element.specs.Requests.{acted}
 use Rattle.element_control.specs.Control.{selected, controlOf, chosen, settled}
 use Rattle.element_control.proofs.Acting.{settled-length, own-acts, overall-acts, settled-by, settled-alone}
-use Rattle.refusals.specs.declared.Answer.{Answer}
-use Rattle.refusals.specs.declared.Refusal.{Refusal}
-use Rattle.refusals.specs.declared.Answer.the-variants.{Accepted, Refused}
+use Rattle.refusals.specs.declared.PageAnswer.{PageAnswer}
+use Rattle.refusals.specs.declared.PageRefusal.{PageRefusal}
+use Rattle.refusals.specs.declared.PageAnswer.the-variants.{Accepted, Refused}
 use Rattle.shelf.specs.Limits.{elementPlace, HasElement}
 use Rattle.shelf.specs.Types.{elementsOf}
 use Rattle.shelf.specs.Elements.{settingsAt, settingsPut}
@@ -101,8 +101,8 @@ module _ (s p : List ℕ) where
   all-acted n q e = e ∙ ap partly q ∙ list-put (settingsAfter s p) after-length s
 
   -- the call as a whole
-  module _ {a : Answer} (h : a ≡ controlTested s p) where
-    pub refused-after : {r : Refusal} → a ≡ Refused r → s ≡ after s p
+  module _ {a : PageAnswer} (h : a ≡ controlTested s p) where
+    pub refused-after : {r : PageRefusal} → a ≡ Refused r → s ≡ after s p
     unfolding valid
     refused-after u = sym (rw (← h, u))
 

@@ -2,8 +2,7 @@
 use element::types::Kind;
 use element_control::Control;
 use page::slots;
-use refusals::Answer;
-use refusals::Refusal;
+use refusals::PageAnswer;
 use refusals::Tested;
 ghost use mathlib.Core.Path.{_≡_};
 ghost use Prim.Native.Nat.{_+_, _≤_};
@@ -50,24 +49,21 @@ fn first_offence(shelf: &[u8], page: &[u8], n: u16) -> u32
 }
 
 // The page's own tests.
-fn test_bytes(shelf: &[u8], page: &[u8], n: u16) -> Answer
+fn test_bytes(shelf: &[u8], page: &[u8], n: u16) -> PageAnswer
     requires { ⌜ HasFront (now shelf) ⌝ }
     requires { ⌜ n ≤ slotsOf (now shelf) ⌝ }
     requires { ⌜ slotPlace n ≤ length (now page) ⌝ }
     ensures { λ r. ⌜ r ≡ bytesTested (now (shelf .entry)) (now (page .entry)) n ⌝ }
 {
-    if first_offence(shelf, page, n) != slots::slot_place(n) {
-        return Answer::Refused(Refusal::NotAllowed);
-    }
-    Answer::Accepted
+    PageAnswer::searched(first_offence(shelf, page, n), slots::slot_place(n))
 }
 
-pub fn test(shelf: &[u8], page: &[u8]) -> Answer
+pub fn test(shelf: &[u8], page: &[u8]) -> PageAnswer
     ensures { λ r. ⌜ r ≡ controlTested (now (shelf .entry)) (now (page .entry)) ⌝ }
 {
     let tested = page::testing::page_slots(shelf, page, CODE);
     let Tested::Slots(n) = tested else {
-        return tested.answer();
+        return PageAnswer::of(tested.answer());
     };
     test_bytes(shelf, page, n)
 }

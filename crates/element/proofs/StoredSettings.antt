@@ -4,9 +4,11 @@ use mathlib.Core.Bool.{true}
 use mathlib.Core.List.{List, [], _∷_}
 use Prim.Native.Nat.{ℕ, _<_}
 use lib.ListN.{length}
+use Rattle.bits.specs.Choice.{firstOfFour}
+use Rattle.bits.proofs.Logic.{four-alike}
 use Rattle.element.specs.declared.types.Kind.{Kind}
 use Rattle.element.specs.declared.settings.Settings.{Settings}
-use Rattle.element.specs.Layouts.{unnamed}
+use Rattle.element.specs.Layouts.{named}
 use Rattle.element.specs.Types.{layoutOf}
 use Rattle.element.specs.Settings.{settingsOf, settingsBytes, settingsFormed}
 use Rattle.element.specs.Requests.{reservedIn, acted}
@@ -18,9 +20,9 @@ module _ (k : Kind) where
   unfolding layoutOf
   sound = facts k .sound
 
-  pub reserved-unnamed : (e : List ℕ) → unnamed (layoutOf k) e ≡ reservedIn k e
+  pub reserved-named : (e : List ℕ) → firstOfFour (named (layoutOf k) e) ≡ reservedIn k e
   unfolding layoutOf reservedIn
-  reserved-unnamed e = sym (facts k .reserves e)
+  reserved-named e = sym (four-alike (facts k .reserves e))
 
   -- the type's four bytes have a place for every field
   abbrev pub Storable : Settings → Type 0

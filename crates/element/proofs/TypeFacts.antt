@@ -28,10 +28,10 @@ pub facts : (k : Kind) → Facts (rulesOf k)
 facts Cooling = record {
   numbered = refl;
   sound = sound-tested fanLayout refl;
-  reserves = λ e. refl;
+  reserves = λ e j. refl;
   judges = λ s r n t. code-picked (isOn s && eqb r 0) false;
   lays = lays-tested fanStatus refl;
-  hides = λ e. refl;
+  hides = λ e j. refl;
   shows = λ s v r l p a.
       let h = leb-true r 2047 a in
       let n : s .speed ≤ 7 = rw (← (p .3)) (and-le-r (s .speed) 7) in
@@ -40,33 +40,33 @@ facts Cooling = record {
 facts Temperature = record {
   numbered = refl;
   sound = sensor-sound;
-  reserves = λ e. refl;
+  reserves = λ e j. refl;
   judges = λ s r n t.
       code-either (eqb r 0) (unlimited 6) _ refl
       (code-judged (above r (getD t 0 0)) (above r (getD t 1 0)) (below r (getD t 2 0)) (below r (getD t 3 0)));
   lays = lays-tested temperatureStatus refl;
-  hides = λ e. refl;
+  hides = λ e j. refl;
   shows = λ s v r l p a.
       (omega arith, (omega arith, (omega arith, (num-small (v .highcrit), (num-small (v .highwarn), (num-small (v .lowcrit), (num-small (v .lowwarn), tt)))))));
 }
 facts Voltage = record {
   numbered = refl;
   sound = sensor-sound;
-  reserves = λ e. refl;
+  reserves = λ e j. refl;
   judges = λ s r n t.
       code-judged (over r n (getD t 0 0)) (over r n (getD t 1 0)) (under r n (getD t 2 0)) (under r n (getD t 3 0));
   lays = lays-tested voltageStatus refl;
-  hides = λ e. refl;
+  hides = λ e j. refl;
   shows = λ s v r l p a.
       (omega arith, (omega arith, (num-small (v .highwarn), (num-small (v .lowwarn), (num-small (v .highcrit), (num-small (v .lowcrit), (omega arith, (omega arith, tt))))))));
 }
 facts Current = record {
   numbered = refl;
   sound = sensor-sound;
-  reserves = λ e. refl;
+  reserves = λ e j. refl;
   judges = λ s r n t. code-judged (over r n (getD t 0 0)) (over r n (getD t 1 0)) false false;
   lays = lays-tested currentStatus refl;
-  hides = λ e. refl;
+  hides = λ e j. refl;
   shows = λ s v r l p a.
       (omega arith, (omega arith, (num-small (v .highwarn), (num-small (v .highcrit), (omega arith, (omega arith, tt))))));
 }

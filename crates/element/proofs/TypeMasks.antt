@@ -10,6 +10,7 @@ use lib.Dec.{eqb, ltb}
 use lib.ListN.{getD}
 use borrow.Author.Tests.{eq-eqb, ne-eqb}
 use Rattle.bits.specs.Choice.{pick}
+use Rattle.bits.proofs.Logic.{four-alike}
 use Rattle.bits.specs.Bits.{within}
 use Rattle.bits.specs.Places.{fourAt}
 use Rattle.bits.specs.Numbers.{big, bytes, Bytes}
@@ -70,7 +71,7 @@ module _ (k : Kind) where
 
   pub reserved-outside : (e : List ℕ) → firstOutside (bytes 4 (2147483648 + rulesOf k .numbers .settings)) e ≡ reservedIn k e
   unfolding reservedIn
-  reserved-outside e = ap (λ (m : List ℕ). firstOutside m e) control-four ∙ sym (facts k .reserves e)
+  reserved-outside e = ap (λ (m : List ℕ). firstOutside m e) control-four ∙ sym (four-alike (facts k .reserves e))
 
   pub settings-within : (e : List ℕ) → Bytes (fourAt e 0) → within (rulesOf k .numbers .settings) (big (fourAt e 0)) ≡ allWithin (settingsMask l) e
   settings-within e h =

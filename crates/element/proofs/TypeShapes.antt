@@ -14,7 +14,7 @@ use Rattle.bits.specs.Choice.{firstOf}
 use Rattle.bits.specs.Bits.{within, only}
 use Rattle.bits.specs.Places.{fourAt}
 use Rattle.bits.specs.Numbers.{big, bytes, Each, Bytes}
-use Rattle.bits.proofs.Logic.{and-left, and-right, and-both, and-four, below-at, four-pass}
+use Rattle.bits.proofs.Logic.{and-left, and-right, and-both, and-four, below-at, four-pass, four-alike}
 use Rattle.bits.proofs.Each.{each-at, four-small}
 use Rattle.bits.proofs.Masks.{within-four}
 use Rattle.bits.proofs.Widths.{bytes-big}
@@ -213,13 +213,13 @@ module _ (k : Kind) where
         let s = and-left (within (rulesOf k .numbers .shown) (big (fourAt e 0))) (codeAllowed (getD e 0 0 % 16)) t in
         let q : within (big (shownMask l)) (big (fourAt e 0)) ≡ true = ap (λ (n : ℕ). within n (big (fourAt e 0))) (sym shown-is) ∙ s in
         let w = and-four (only (6 ∷ 5 ∷ 4 ∷ 3 ∷ 2 ∷ 1 ∷ 0 ∷ []) (getD e 0 0)) (within (fieldMask (l .second)) (getD e 1 0)) (within (fieldMask (l .third)) (getD e 2 0)) (within (fieldMask (l .fourth)) (getD e 3 0)) (sym (within-four _ _ _ _ _ _ _ _ shown-bytes h) ∙ q) in
-        sym (facts k .hides e ∙ four-pass (and-both (w .0) c) (w .1) (w .2) (w .3))
+        sym (four-alike (facts k .hides e) ∙ four-pass (and-both (w .0) c) (w .1) (w .2) (w .3))
 
     pub first-hidden : firstOf (firstClear (getD e 0 0)) (within (getD (bytes 4 (rulesOf k .numbers .shown)) 1 0) (getD e 1 0)) (within (getD (bytes 4 (rulesOf k .numbers .shown)) 2 0) (getD e 2 0)) (within (getD (bytes 4 (rulesOf k .numbers .shown)) 3 0) (getD e 3 0)) ≡ statusOffending k e
     unfolding statusOffending
     first-hidden =
         ap (λ (m : List ℕ). firstOf (firstClear (getD e 0 0)) (within (getD m 1 0) (getD e 1 0)) (within (getD m 2 0) (getD e 2 0)) (within (getD m 3 0) (getD e 3 0))) shown-four
-        ∙ sym (facts k .hides e)
+        ∙ sym (four-alike (facts k .hides e))
 
 -- the numbers that four fields each have
 module _ (k : Kind) where

@@ -10,13 +10,14 @@ use lib.Dec.{eqb}
 use lib.ListN.{length, getD, replicate}
 use borrow.Author.Tests.{eqb-true, eq-eqb, leb-true, le-leb}
 use Rattle.bits.specs.Bits.{num, within, only}
-use Rattle.bits.proofs.Logic.{and-right, and-both, all-four, four-pass, first-small, below-all, byByteIf}
+use Rattle.bits.proofs.Logic.{and-right, and-both, all-four, four-pass, first-small, below-all, byByteIf, four-alike}
+use Rattle.bits.specs.Choice.{pick, firstOfFour}
 use Rattle.bits.proofs.Halves.{num-small}
 use Rattle.element.specs.declared.types.Kind.{Kind}
 use Rattle.element.specs.declared.settings.Settings.{Settings}
 use Rattle.element.specs.declared.verdict.Verdict.{Verdict}
 use Rattle.element.specs.StatusLayout.{StatusLayout, fieldMask, fieldsIn, padded, twelve, holds, fit}
-use Rattle.element.specs.Rules.{codeAllowed, firstClear, unshown}
+use Rattle.element.specs.Rules.{codeAllowed, firstClear, shownMask, clear}
 use Rattle.element.specs.Types.{rulesOf, layoutOf, readingAllowed, verdictOf}
 use Rattle.element.specs.Status.{headOf, firstByte, entryOf, statusBytes, entryBy, shownBy, statusOffending, mostShown, overallOffending, codeAlone, mostOverall}
 use Rattle.element.proofs.Pieces.{length-padded}
@@ -68,9 +69,15 @@ module _ (k : Kind) where
   abbrev l : StatusLayout
   l = rulesOf k .status
 
-  offence-is : (e : List ℕ) → statusOffending k e ≡ unshown l e
+  offence-is : (e : List ℕ) → statusOffending k e ≡ firstOfFour (clear l e)
   unfolding statusOffending
-  offence-is = facts k .hides
+  offence-is e = four-alike (facts k .hides e)
+
+  -- byte j is tested by itself and byte 0
+  pub status-alike : (e d : List ℕ) (j : ℕ) → getD e 0 0 ≡ getD d 0 0 → getD e j 0 ≡ getD d j 0 → rulesOf k .statusAllows e j ≡ rulesOf k .statusAllows d j
+  status-alike e d j p q =
+      let c : clear l e j ≡ clear l d j = λ i. pick (eqb j 0) (firstClear (p i)) (within (getD (shownMask l) j 0) (q i)) in
+      facts k .hides e j ∙ c ∙ sym (facts k .hides d j)
 
   pub offence-small : (e : List ℕ) → statusOffending k e ≤ 4
   offence-small e = rw (offence-is e) (first-small _ _ _ _)

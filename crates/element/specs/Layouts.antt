@@ -8,7 +8,7 @@ use lib.Bits.{bitAnd, bitOr}
 use lib.Dec.{eqb}
 use lib.ListN.{getD}
 use Rattle.bits.specs.Bits.{bit, maskOf, nibble, join}
-use Rattle.bits.specs.Masks.{allWithin, firstOutside}
+use Rattle.bits.specs.Masks.{allWithin, byteWithin}
 use Rattle.element.specs.declared.layout.Layout.{Layout}
 use Rattle.element.specs.declared.settings.Settings.{Settings}
 
@@ -44,6 +44,6 @@ controlMask l = maskOf (7 ∷ 6 ∷ 5 ∷ 4 ∷ []) ∷ l .flags1 ∷ l .flags2 
 abbrev pub formed : Layout → List ℕ → Bool
 formed l e = allWithin (settingsMask l) e && (eqb (l .speed) 0 || not (eqb (bitAnd (getD e 3 0) (l .speed)) 0))
 
--- of a control element: the first byte with any other bit set, 4 if none has one
-abbrev pub unnamed : Layout → List ℕ → ℕ
-unnamed l e = firstOutside (controlMask l) e
+-- byte j of a control element has no other bit set
+abbrev pub named : Layout → List ℕ → ℕ → Bool
+named l e j = byteWithin (controlMask l) e j

@@ -3,14 +3,14 @@ use mathlib.Core.Bool.{not, _&&_}
 use mathlib.Core.List.{List}
 use Prim.Native.Nat.{ℕ}
 use lib.Dec.{eqb}
-use Rattle.bits.specs.Choice.{pick}
+use Rattle.bits.specs.Choice.{pick, firstOfFour}
 use Rattle.element.specs.declared.types.Kind.{Kind}
 use Rattle.element.specs.declared.settings.Settings.{Settings}
 use Rattle.element.specs.Types.{rulesOf}
 
 -- the first byte with a reserved bit set, 4 if none has one
 unfoldable pub reservedIn : Kind → List ℕ → ℕ
-reservedIn k e = rulesOf k .controlOffence e
+reservedIn k e = firstOfFour (rulesOf k .controlAllows e)
 
 -- speed code 0 keeps SPEED; 1 to 7 replaces it
 abbrev pub speedAfter : ℕ → ℕ → ℕ

@@ -2,10 +2,11 @@
 use mathlib.Core.Bool.{Bool, _&&_}
 use mathlib.Core.List.{List, [], _∷_}
 use Prim.Native.Nat.{ℕ, _%_}
-use lib.Dec.{leb}
+use lib.Dec.{eqb, leb}
 use lib.ListN.{getD}
-use Rattle.bits.specs.Choice.{firstOf}
-use Rattle.bits.specs.Bits.{maskOf, within, only}
+use Rattle.bits.specs.Choice.{pick}
+use Rattle.bits.specs.Bits.{maskOf, only}
+use Rattle.bits.specs.Masks.{byteWithin}
 use Rattle.bits.specs.Places.{fourAt}
 use Rattle.bits.specs.Numbers.{big}
 use Rattle.element.specs.declared.types.LowOrder.{LowOrder}
@@ -29,12 +30,9 @@ abbrev pub shownMask : StatusLayout → List ℕ
 shownMask l =
     maskOf (6 ∷ 5 ∷ 4 ∷ 3 ∷ 2 ∷ 1 ∷ 0 ∷ []) ∷ fieldMask (l .second) ∷ fieldMask (l .third) ∷ fieldMask (l .fourth) ∷ []
 
--- every bit of bytes 1 to 3 that is no field is zero
-abbrev pub unshown : StatusLayout → List ℕ → ℕ
-unshown l e =
-    firstOf (firstClear (getD e 0 0)) (within (fieldMask (l .second)) (getD e 1 0))
-    (within (fieldMask (l .third)) (getD e 2 0))
-    (within (fieldMask (l .fourth)) (getD e 3 0))
+-- byte j of a status element: of bytes 1 to 3 every bit that is no field is zero
+abbrev pub clear : StatusLayout → List ℕ → ℕ → Bool
+clear l e j = pick (eqb j 0) (firstClear (getD e 0 0)) (byteWithin (shownMask l) e j)
 
 -- What the code is told of a type, as the numbers that four bytes each say: the bits that bytes may have, of settings, of a status element,
 -- of the twelve bytes of an entry which the type lays out, and of thresholds; and the lowest bit of each of the twelve in the status element.
@@ -67,8 +65,8 @@ pub record Rules : Type 0 where
   pub code : ℕ
   -- settings, both ways: which bits of bytes 1 to 3 are its flags, and which its speed
   pub layout : Layout
-  -- the first byte of a selected control element, of all four, that is refused; 4 if none is
-  pub controlOffence : List ℕ → ℕ
+  -- which of the four bytes of a selected control element are allowed
+  pub controlAllows : List ℕ → ℕ → Bool
   -- the most that its reading may be, and the least and the most that its nominal may be
   pub mostReading : ℕ
   pub leastNominal : ℕ
@@ -78,9 +76,9 @@ pub record Rules : Type 0 where
   pub lowOrder : LowOrder
   -- from settings, reading, nominal and thresholds
   pub verdict : Settings → ℕ → ℕ → List ℕ → Verdict
-  -- the status element, both ways; the first byte of it, of all four, that is refused; and the fields that an element shows
+  -- the status element, both ways; which of its four bytes are allowed; and the fields that an element shows
   pub status : StatusLayout
-  pub statusOffence : List ℕ → ℕ
+  pub statusAllows : List ℕ → ℕ → Bool
   pub fields : Settings → Verdict → ℕ → List ℕ
   -- what the code is told of these
   pub numbers : Numbers

@@ -1,10 +1,11 @@
 -- Status elements, and the entries of a record that say the same: sixteen bytes, of which four are alike for all types (code, PRDFAIL,
 -- DISABLED, SWAP) and twelve are laid out by the type. Assumes nothing.
+use mathlib.Core.Bool.{Bool}
 use mathlib.Core.List.{List, [], _∷_, _++_}
 use Prim.Native.Nat.{ℕ, _+_, _*_, _/_, _%_}
 use lib.Dec.{eqb}
 use lib.ListN.{getD, replicate}
-use Rattle.bits.specs.Choice.{firstOf}
+use Rattle.bits.specs.Choice.{pick, firstOfFour}
 use Rattle.bits.specs.Bits.{num}
 use Rattle.element.specs.declared.types.Kind.{Kind}
 use Rattle.element.specs.declared.settings.Settings.{Settings}
@@ -51,15 +52,18 @@ shownBy k s r n t = entryBy k s (verdictOf k s r n t) r
 
 -- the first byte of a status element that is refused, 4 if none is
 unfoldable pub statusOffending : Kind → List ℕ → ℕ
-statusOffending k e = rulesOf k .statusOffence e
+statusOffending k e = firstOfFour (rulesOf k .statusAllows e)
 
 -- the most that each byte of an entry may be: codes to 8, flags, and what the type lays out
 unfoldable pub mostShown : Kind → List ℕ
 mostShown k = (8 ∷ 1 ∷ 1 ∷ 1 ∷ []) ++ mostOf (rulesOf k .status)
 
 -- in overall elements all but the code is zero
+abbrev pub overallAllows : List ℕ → ℕ → Bool
+overallAllows e j = pick (eqb j 0) (codeAllowed (getD e 0 0)) (eqb (getD e j 0) 0)
+
 unfoldable pub overallOffending : List ℕ → ℕ
-overallOffending e = firstOf (codeAllowed (getD e 0 0)) (eqb (getD e 1 0) 0) (eqb (getD e 2 0) 0) (eqb (getD e 3 0) 0)
+overallOffending e = firstOfFour (overallAllows e)
 
 abbrev pub codeAlone : ℕ → List ℕ
 codeAlone n = n ∷ replicate 15 0

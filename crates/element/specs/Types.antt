@@ -11,10 +11,10 @@ use Rattle.element.specs.declared.settings.Settings.{Settings}
 use Rattle.element.specs.declared.verdict.Verdict.{Verdict}
 use Rattle.element.specs.declared.types.Kind.{Kind}
 use Rattle.element.specs.declared.types.Kind.the-variants.{Cooling, Temperature, Voltage, Current}
-use Rattle.element.specs.Layouts.{unnamed}
+use Rattle.element.specs.Layouts.{named}
 use Rattle.element.specs.Verdict.{fanVerdict, temperatureVerdict, voltageVerdict, currentVerdict}
 use Rattle.element.specs.StatusLayout.{StatusLayout, flag, field, reserved}
-use Rattle.element.specs.Rules.{Rules, unshown, numbersOf}
+use Rattle.element.specs.Rules.{Rules, clear, numbersOf}
 use Rattle.element.specs.Thresholds.{highOrdered, lowOrdered, byteHad}
 
 -- Cooling (03h): a fan
@@ -44,7 +44,7 @@ abbrev pub cooling : Rules
 cooling = record {
   code = 0x03;
   layout = fanLayout;
-  controlOffence = unnamed fanLayout;
+  controlAllows = named fanLayout;
   mostReading = 2047;
   leastNominal = 0;
   mostNominal = 0;
@@ -52,7 +52,7 @@ cooling = record {
   lowOrder = Any;
   verdict = λ s r n t. fanVerdict (isOn s) r;
   status = fanStatus;
-  statusOffence = unshown fanStatus;
+  statusAllows = clear fanStatus;
   fields = fanFields;
   numbers = numbersOf fanLayout fanStatus 0;
 }
@@ -87,7 +87,7 @@ abbrev pub temperature : Rules
 temperature = record {
   code = 0x04;
   layout = sensorLayout;
-  controlOffence = unnamed sensorLayout;
+  controlAllows = named sensorLayout;
   mostReading = 255;
   leastNominal = 0;
   mostNominal = 0;
@@ -95,7 +95,7 @@ temperature = record {
   lowOrder = WarningAbove;
   verdict = λ s r n t. temperatureVerdict r t;
   status = temperatureStatus;
-  statusOffence = unshown temperatureStatus;
+  statusAllows = clear temperatureStatus;
   fields = temperatureFields;
   numbers = numbersOf sensorLayout temperatureStatus 4;
 }
@@ -126,7 +126,7 @@ abbrev pub voltage : Rules
 voltage = record {
   code = 0x12;
   layout = sensorLayout;
-  controlOffence = unnamed sensorLayout;
+  controlAllows = named sensorLayout;
   mostReading = 65535;
   leastNominal = 1;
   mostNominal = 32767;
@@ -134,7 +134,7 @@ voltage = record {
   lowOrder = CriticalAbove;
   verdict = λ s r n t. voltageVerdict r n t;
   status = voltageStatus;
-  statusOffence = unshown voltageStatus;
+  statusAllows = clear voltageStatus;
   fields = voltageFields;
   numbers = numbersOf sensorLayout voltageStatus 4;
 }
@@ -156,7 +156,7 @@ abbrev pub current : Rules
 current = record {
   code = 0x13;
   layout = sensorLayout;
-  controlOffence = unnamed sensorLayout;
+  controlAllows = named sensorLayout;
   mostReading = 65535;
   leastNominal = 1;
   mostNominal = 32767;
@@ -164,7 +164,7 @@ current = record {
   lowOrder = Any;
   verdict = λ s r n t. currentVerdict r n t;
   status = currentStatus;
-  statusOffence = unshown currentStatus;
+  statusAllows = clear currentStatus;
   fields = currentFields;
   numbers = numbersOf sensorLayout currentStatus 2;
 }

@@ -3,13 +3,14 @@ use mathlib.Core.Bool.{Bool, true, false}
 use mathlib.Core.List.{List}
 use Prim.Native.Nat.{ℕ}
 use lib.ListN.{getD}
-use Rattle.bits.specs.Choice.{pick}
+use Rattle.bits.specs.Choice.{pick, firstOfFour}
 use Rattle.bits.specs.Bits.{bit}
 use Rattle.element.specs.declared.types.Kind.{Kind}
 use Rattle.element.specs.declared.settings.Settings.{Settings}
 use Rattle.element_control.specs.declared.Control.{Control}
+use Rattle.element.specs.Types.{rulesOf}
 use Rattle.element.specs.Settings.{settingsOf, settingsBytes}
-use Rattle.element.specs.Requests.{reservedIn, acted}
+use Rattle.element.specs.Requests.{acted}
 
 -- byte 0, bit 7
 abbrev pub selected : List ℕ → Bool
@@ -31,9 +32,13 @@ requesting r = record { select = true; request = r }
 unfoldable pub controlOf : Kind → List ℕ → Control
 controlOf k e = pick (selected e) (requesting (settingsOf k e)) unselected
 
--- reserved bits are tested in selected elements only
+-- byte j is allowed: reserved bits are tested in selected elements only
+abbrev pub allows : Kind → List ℕ → ℕ → Bool
+allows k e j = pick (selected e) (rulesOf k .controlAllows e j) true
+
+-- the first byte that is not allowed, 4 if all are
 unfoldable pub offending : Kind → List ℕ → ℕ
-offending k e = pick (selected e) (reservedIn k e) 4
+offending k e = firstOfFour (allows k e)
 
 -- an individual element with SELECT acts alone; one without leaves its element to the overall one
 unfoldable pub chosen : Control → Control → Control

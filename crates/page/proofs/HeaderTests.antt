@@ -11,7 +11,7 @@ use Rattle.bits.specs.Numbers.{bytes}
 use Rattle.bits.specs.Places.{fourAt, putFour}
 use Rattle.bits.proofs.FourPut.{length-put}
 use Rattle.bits.proofs.RowsPut.{four-behind}
-use Rattle.refusals.specs.declared.Refusal.the-variants.{ShelfNotWellFormed, PageTooShort, PageLength, Generation}
+use Rattle.refusals.specs.declared.Refusal.the-variants.{ShelfNotWellFormed, PageTooShort, Generation, NeededLength}
 use Rattle.refusals.specs.declared.Refusal.{Refusal}
 use Rattle.refusals.specs.declared.Answer.{Answer}
 use Rattle.refusals.specs.declared.Answer.the-variants.{Accepted, Refused}
@@ -54,7 +54,7 @@ module _ (p : List ℕ) (code : ℕ) where
 
 -- the length that the type list needs
 module _ (p : List ℕ) (n : ℕ) where
-  pub length-differs : (length p ≡ n → ⊥) → Refused PageLength ≡ lengthTested p n
+  pub length-differs : (length p ≡ n → ⊥) → Refused NeededLength ≡ lengthTested p n
   unfolding lengthTested
   length-differs e = rw (ne-eqb (length p) n e)
 
@@ -64,7 +64,7 @@ module _ (p : List ℕ) (n : ℕ) where
 
   pub length-needed : lengthTested p n ≡ Accepted → length p ≡ n
   unfolding lengthTested
-  length-needed e = eqb-true (length p) n (held (eqb (length p) n) PageLength Accepted e .0)
+  length-needed e = eqb-true (length p) n (held (eqb (length p) n) NeededLength Accepted e .0)
 
 -- the generation code
 module _ (c p : List ℕ) where

@@ -9,3 +9,4 @@ pub mod ElementSlots
 pub mod SameFront
 pub mod SlotWalk
 pub mod SlotsCounted
+pub mod FirstOffence

@@ -11,8 +11,10 @@ use Rattle.bits.proofs.Logic.{and-left, and-right}
 use Rattle.refusals.specs.declared.Refusal.the-variants.{ShelfNotWellFormed}
 use Rattle.refusals.specs.declared.Answer.{Answer}
 use Rattle.refusals.specs.declared.Answer.the-variants.{Accepted}
-use Rattle.refusals.specs.Outcomes.{next}
-use Rattle.refusals.proofs.AcceptedTests.{held, held-both}
+use Rattle.refusals.specs.declared.PageAnswer.{PageAnswer}
+use Rattle.refusals.specs.declared.PageAnswer.the-variants as page
+use Rattle.refusals.specs.Outcomes.{next, pageNext}
+use Rattle.refusals.proofs.AcceptedTests.{held, held-both, held-page}
 use Rattle.shelf.specs.Limits.{mostTypes, mostElements, elementPlace}
 use Rattle.shelf_formed.specs.Formed.{frontFormed, HasFront, configurationFormed}
 use Rattle.shelf_formed.proofs.FormedShelf.{few-types, few-elements}
@@ -30,14 +32,15 @@ module _ (c : List ℕ) where
   configuration-there h =
       (configuration-front h, omega (arith, eqb-true (length c) (elementPlace 0) (and-right (frontFormed c) (eqb (length c) (elementPlace 0)) h)))
 
-  -- a call that tests the configuration first was accepted
-  pub configuration-passed : (rest : Answer) → next (configurationTested c) rest ≡ Accepted → (configurationFormed c ≡ true) × (rest ≡ Accepted)
-  configuration-passed rest a =
-      let h = held-both (configurationTested c) rest a in
-      (held (configurationFormed c) ShelfNotWellFormed Accepted (h .0) .0, h .1)
+  formed : configurationTested c ≡ Accepted → configurationFormed c ≡ true
+  formed a = held (configurationFormed c) ShelfNotWellFormed Accepted a .0
+
+  -- a call that tests the configuration first was accepted, with a page or with a record
+  pub configuration-passed : (rest : PageAnswer) → pageNext (configurationTested c) rest ≡ page.Accepted → (configurationFormed c ≡ true) × (rest ≡ page.Accepted)
+  configuration-passed rest a = let h = held-page (configurationTested c) rest a in (formed (h .0), h .1)
 
   pub accepted-there : (rest : Answer) {a : Answer} → a ≡ next (configurationTested c) rest → a ≡ Accepted → HasFront c
-  accepted-there rest h u = configuration-there (configuration-passed rest (sym h ∙ u) .0)
+  accepted-there rest h u = configuration-there (formed (held-both (configurationTested c) rest (sym h ∙ u) .0))
 
   module _ (h : frontFormed c ≡ true) where
     pub slots-bound : slotsOf c ≤ mostTypes + mostElements

@@ -7,7 +7,7 @@ use lib.Dec.{eqb, leb}
 use lib.ListN.{length, getD}
 use Rattle.bits.specs.Numbers.{big, bytes}
 use Rattle.bits.specs.Places.{twoAt, fourAt, putFour}
-use Rattle.refusals.specs.declared.Refusal.the-variants.{ShelfNotWellFormed, PageTooShort, PageCode, PageLength, Generation}
+use Rattle.refusals.specs.declared.Refusal.the-variants.{ShelfNotWellFormed, PageTooShort, PageCode, PageLength, Generation, NeededLength}
 use Rattle.refusals.specs.declared.Answer.{Answer}
 use Rattle.refusals.specs.declared.Answer.the-variants.{Accepted}
 use Rattle.refusals.specs.Outcomes.{unless, next}
@@ -49,19 +49,19 @@ saidTested p = unless (lengthSaid p) PageLength Accepted
 unfoldable pub framed : List ℕ → ℕ → Answer
 framed p code = next (sizeTested p) (next (codeTested p code) (saidTested p))
 
--- 4: not the n bytes that the type list needs
+-- 12: not the n bytes that the type list needs
 unfoldable pub lengthTested : List ℕ → ℕ → Answer
-lengthTested p n = unless (eqb (length p) n) PageLength Accepted
+lengthTested p n = unless (eqb (length p) n) NeededLength Accepted
 
 -- 5: another generation code
 unfoldable pub generationTested : List ℕ → List ℕ → Answer
 generationTested c p = unless (eqb (generationOn p) (generationOf c)) Generation Accepted
 
--- 2 to 5: the frame, the length of n slots, the generation code
+-- 2 to 4: the frame; 12: the length of n slots; 5: the generation code
 unfoldable pub headed : List ℕ → List ℕ → ℕ → ℕ → Answer
 headed c p code n = next (framed p code) (next (lengthTested p (slotPlace n)) (generationTested c p))
 
--- 1 to 5: the shelf, and the header of a page for it
+-- 1 to 4, 12, 5: the shelf, and the header of a page for it
 unfoldable pub pageTested : List ℕ → List ℕ → ℕ → Answer
 pageTested s p code = next (shelfTested s) (headed s p code (slotsOf s))
 

@@ -59,7 +59,7 @@ pub fn test_length(page: &[u8], needed: u32) -> Answer
     ensures { λ r. ⌜ r ≡ lengthTested (now (page .entry)) needed ⌝ }
 {
     if page.len() != needed as usize {
-        return Answer::Refused(Refusal::PageLength);
+        return Answer::Refused(Refusal::NeededLength);
     }
     Answer::Accepted
 }

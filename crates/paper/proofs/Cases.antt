@@ -9,7 +9,7 @@ use lib.Dec.{eqb, ltb}
 use lib.ListN.{length, getD}
 use borrow.Author.Tests.{eqb-true, ltb-true}
 use Rattle.bits.specs.Numbers.{Bytes}
-use Rattle.bits.specs.Choice.{firstOf, allBelow}
+use Rattle.bits.specs.Choice.{pick, firstOf, allBelow, offenceIn}
 use Rattle.bits.specs.Bits.{num}
 use Rattle.bits.specs.Places.{fourAt}
 use Rattle.bits.specs.Rows.{joined, bytesAt}
@@ -30,13 +30,15 @@ use Rattle.page.specs.Slots.{slotsOf, startOf, slotType, isOverall, slotAt, slo
 use Rattle.page.specs.Header.{lengthSaid, sizeTested, codeTested, saidTested, framed, lengthTested, generationTested, headed, pageTested, header}
 use Rattle.page.specs.Places.{placesOf}
 use Rattle.shelf_status.specs.ShelfStatus.{verdictAt, shownAt, codeAt, worst, pageBits}
-use Rattle.control_page.specs.Tests.{slotOffending, offence, bytesTested, controlTested, valid}
+use Rattle.control_page.specs.Tests.{firstAllows, bytesTested, controlTested, valid}
+use Rattle.control_page.proofs.FirstOffence.{slotOffending, found}
 use Rattle.control_page.specs.Brought.{settingsAfter, broughtTo}
 use Rattle.status_page.specs.Page.{slotBytes, pageWith, statusPage, shownIn}
 use Rattle.refusals.specs.declared.Refusal.the-variants.{Unreachable}
 use Rattle.refusals.specs.declared.Answer.the-variants.{Accepted}
-use Rattle.refusals.specs.Numbers.{numberOf}
-use Rattle.refusals.specs.Outcomes.{next, accepts}
+use Rattle.refusals.specs.declared.PageAnswer.{PageAnswer}
+use Rattle.refusals.specs.Numbers.{numberOf, pageNumber, pageOffset}
+use Rattle.refusals.specs.Outcomes.{offenceTested, pageNext, accepts}
 use Rattle.build_order.specs.Search.{cost, better, best}
 use Rattle.build_element.specs.Wishes.{inReach, alike, requestBytes, own, brings, one}
 use Rattle.build_element.specs.Parts.{tried, tries}
@@ -46,7 +48,7 @@ use Rattle.build_page.specs.Page.{searchIn, overallIn, rowUnder, rowFor, select
 use Rattle.build_page.proofs.FirstPage.{made-selects}
 use Rattle.build_page.proofs.PromiseKept.{none-reaches, page-promised}
 use Rattle.build_page.proofs.PromiseLaws.{wish-taken, selects-needed}
-use Rattle.paper.specs.Table.{Case, shows, judges, tells, builds, reaches, refuses, limits, none, typesA, shelfA, OfA, HasStatus, Gets, ReachedBy, RefusedBy, Holds, AllHold, table}
+use Rattle.paper.specs.Table.{Case, shows, judges, tells, builds, reaches, refuses, answers, limits, none, typesA, shelfA, OfA, HasStatus, Gets, ReachedBy, RefusedBy, Answers, Holds, AllHold, table}
 use Rattle.paper.specs.Errors.{errors}
 
 -- a test that each number is a byte
@@ -69,9 +71,10 @@ shelfRest s = eqb (length s) (elementPlace (elementsOf s)) && elementsFormed s (
 abbrev wishRest : List ℕ → List ℕ → Bool
 wishRest s w = eqb (length w) (4 * elementsOf s) && allBelow (mayBe s w) (elementsOf s)
 
--- and of the tests of a control page for it
-abbrev pageRest : List ℕ → List ℕ → Bool
-pageRest s p = accepts (next (headed s p 0x02 (slotsOf s)) (bytesTested s p (slotsOf s)))
+-- and of the tests of a control page for it, whose offending byte is searched slot by slot
+abbrev pageRest : List ℕ → List ℕ → PageAnswer
+pageRest s p =
+    pageNext (headed s p 0x02 (slotsOf s)) (offenceTested (pick (firstAllows p) (offenceIn slotPlace (slotOffending s p) (slotsOf s)) 1) (slotPlace (slotsOf s)) Accepted)
 
 -- the page that is made, where o is the overall element of its one type: so that is searched once, and not for each slot
 abbrev pageUnder : List ℕ → List ℕ → List ℕ → List ℕ
@@ -90,12 +93,15 @@ given i (builds f w p n) =
     ∷ []
 given i (reaches f w p n) =
     let s = anyA i f in
-    (num (allBytes p) ∷ num (shelfRest s) ∷ num (pageRest s p) ∷ selectsOn s p ∷ cost (searchIn s w 0) (fourAt p (slotPlace 0)) ∷ [])
+    (num (allBytes p) ∷ num (shelfRest s) ∷ num (accepts (pageRest s p)) ∷ selectsOn s p ∷ cost (searchIn s w 0) (fourAt p (slotPlace 0)) ∷ [])
     ∷ broughtTo s p
     ∷ []
 given i (refuses f w n) =
     let s = anyA i f in
     (num (shelfRest s) ∷ num (wishRest s w) ∷ num (allBelow (reachable s w) (elementsOf s)) ∷ numberOf Unreachable ∷ []) ∷ []
+given i (answers f p n k) =
+    let s = anyA i f in
+    (num (shelfRest s) ∷ pageNumber (pageRest s p) ∷ pageOffset (pageRest s p) ∷ []) ∷ []
 
 -- and what document 01 tells
 told : Case → List (List ℕ)
@@ -105,6 +111,7 @@ told (tells f p) = (1 ∷ []) ∷ p ∷ []
 told (builds f w p n) = (1 ∷ 1 ∷ 1 ∷ 1 ∷ 1 ∷ n ∷ []) ∷ fourAt p (slotPlace 0) ∷ p ∷ []
 told (reaches f w p n) = (1 ∷ 1 ∷ 1 ∷ n ∷ n ∷ []) ∷ w ∷ []
 told (refuses f w n) = (1 ∷ 1 ∷ 0 ∷ n ∷ []) ∷ []
+told (answers f p n k) = (1 ∷ n ∷ k ∷ []) ∷ []
 
 yes : (b : Bool) → num b ≡ 1 → b ≡ true
 yes true h = refl
@@ -141,9 +148,20 @@ module _ (i f : List ℕ) where
   unfolding wellFormed
   formed t = and-both (and-both front (and-left _ _ t)) (and-right (eqb (length s) (elementPlace (elementsOf s))) _ t)
 
-  accepted : (p : List ℕ) → shelfRest s ≡ true → pageRest s p ≡ true → valid s p ≡ true
-  unfolding valid controlTested pageTested
-  accepted p t h = rw (formed t) h
+  -- a page's answer, where the shelf is well formed
+  answered : (p : List ℕ) → shelfRest s ≡ true → controlTested s p ≡ pageRest s p
+  unfolding controlTested pageTested bytesTested
+  answered p t = rw (formed t, found s p (slotsOf s))
+
+  accepted : (p : List ℕ) → shelfRest s ≡ true → accepts (pageRest s p) ≡ true → valid s p ≡ true
+  unfolding valid
+  accepted p t h = ap accepts (answered p t) ∙ h
+
+  answers-so : (p : List ℕ) (n k : ℕ) → given i (answers f p n k) ≡ told (answers f p n k) → Answers p n k s
+  unfolding given told
+  answers-so p n k e =
+      let a = answered p (yes (shelfRest s) (number 0 e)) in
+      (ap pageNumber a ∙ number 1 e, ap pageOffset a ∙ number 2 e)
 
   module _ (w : List ℕ) where
     taken : shelfRest s ≡ true → wishRest s w ≡ true → wishTested s w ≡ Accepted
@@ -178,7 +196,7 @@ module _ (i f : List ℕ) where
     reached : (p : List ℕ) (n : ℕ) → given i (reaches f w p n) ≡ told (reaches f w p n) → ReachedBy w p n s
     unfolding given told
     reached p n e = (
-      (are-bytes p (yes (allBytes p) (number 0 e)), accepted p (yes (shelfRest s) (number 1 e)) (yes (pageRest s p) (number 2 e)), list 1 e),
+      (are-bytes p (yes (allBytes p) (number 0 e)), accepted p (yes (shelfRest s) (number 1 e)) (yes (accepts (pageRest s p)) (number 2 e)), list 1 e),
       number 3 e,
       (λ q r o. let c = ap (cost (searchIn s w 0)) o ∙ number 4 e in omega (arith, c, needed q r)),
     )
@@ -205,6 +223,7 @@ holds (tells f p) e = of-A f (HasStatus p) (λ i h. (formed i f (yes (shelfRest 
 holds (builds f w p n) e = of-A f (Gets w p n) (λ i h. gets i f w p n h (e i))
 holds (reaches f w p n) e = of-A f (ReachedBy w p n) (λ i h. reached i f w p n (e i))
 holds (refuses f w n) e = of-A f (RefusedBy w n) (λ i h. refused i f w n (e i))
+holds (answers f p n k) e = of-A f (Answers p n k) (λ i h. answers-so i f p n k (e i))
 
 -- the two agree on each of the cases
 infixr 5 _also_
@@ -227,19 +246,19 @@ unfolding settingsOf settingsBytes controlOf reservedIn offending chosen settled
     layoutOf readingAllowed nominalAllowed settingsFormed had ordered before elementsOf typeOf kindAt settingsAt thresholdsAt readingAt
     nominalAt spareAt spareClear elementFormed elementsFormed slotsOf startOf slotType isOverall slotAt header shownAt verdictAt codeAt
     worst shownIn pageBits slotBytes pageWith statusPage firstOf lengthSaid sizeTested codeTested saidTested framed lengthTested
-    generationTested headed placesOf slotOffending offence bytesTested settingsAfter broughtTo inReach alike requestBytes own brings one
+    generationTested headed placesOf slotOffending settingsAfter broughtTo inReach alike requestBytes own brings one
     tried tries cost better best overallIn rowUnder reachable bytesAt served given told
 computed i =
     refl also refl also refl also refl also refl also refl also refl also refl also refl also refl also refl also refl
     also refl also refl also refl also refl also refl also refl also refl also refl also refl also refl also refl also refl
-    also end
+    also refl also refl also refl also refl also refl also refl also refl also end
 
 -- apart from the table, so that antt holds less at a time
 computed-errors : (i : List ℕ) → Agree i errors
 unfolding settingsOf settingsBytes controlOf reservedIn offending chosen settled kindOf layoutOf readingAllowed nominalAllowed
     settingsFormed had ordered before elementsOf typeOf kindAt settingsAt thresholdsAt readingAt nominalAt spareAt spareClear elementFormed
     elementsFormed slotsOf startOf slotType isOverall slotAt firstOf lengthSaid sizeTested codeTested saidTested framed lengthTested
-    generationTested headed placesOf slotOffending offence bytesTested settingsAfter broughtTo alike requestBytes own brings one cost
+    generationTested headed placesOf slotOffending settingsAfter broughtTo alike requestBytes own brings one cost
     bytesAt given told
 computed-errors i = refl also refl also refl also end
 

@@ -1,4 +1,4 @@
--- The cases that document 01 marks M. Assumes nothing.
+-- The cases that document 01 marks M, and those of request One. Assumes nothing.
 use mathlib.Core.Path.{_≡_}
 use mathlib.Core.Bool.{true}
 use mathlib.Core.List.{List, [], _∷_, _++_}
@@ -13,8 +13,10 @@ use Rattle.element.specs.declared.verdict.Verdict.{Verdict}
 use Rattle.element.specs.Settings.{settingsOf}
 use Rattle.element.specs.Types.{verdictOf}
 use Rattle.element.specs.Status.{shownBy, statusBytes}
+use Rattle.refusals.specs.Numbers.{pageNumber, pageOffset}
 use Rattle.shelf_formed.specs.Formed.{wellFormed}
 use Rattle.page.specs.Slots.{slotPlace}
+use Rattle.control_page.specs.Tests.{controlTested}
 use Rattle.status_page.specs.Page.{statusPage}
 use Rattle.build_page.specs.declared.built.Built.{Built}
 use Rattle.build_page.specs.Outcome.{builtNumber, builtOf, leftBy}
@@ -33,6 +35,8 @@ pub data Case : Type 0 where
   reaches : List ℕ → List ℕ → List ℕ → ℕ → Case
   -- these wanted settings are refused by this number
   refuses : List ℕ → List ℕ → ℕ → Case
+  -- A with these fans answers this control page by this number and this offset
+  answers : List ℕ → List ℕ → ℕ → ℕ → Case
 
 abbrev pub limits : Verdict → List ℕ
 limits v = v .code ∷ num (v .highcrit) ∷ num (v .highwarn) ∷ num (v .lowwarn) ∷ num (v .lowcrit) ∷ []
@@ -71,6 +75,10 @@ ReachedBy w p n s =
 abbrev pub RefusedBy : List ℕ → ℕ → List ℕ → Type 0
 RefusedBy w n s = (out : List ℕ) → (r : Built) × Promised s w out r out × (builtNumber r ≡ n)
 
+-- it answers the control page p by the number n and the offset k
+abbrev pub Answers : List ℕ → ℕ → ℕ → List ℕ → Type 0
+Answers p n k s = (pageNumber (controlTested s p) ≡ n) × (pageOffset (controlTested s p) ≡ k)
+
 abbrev pub Holds : Case → Type 0
 Holds (shows k s r n t b) = statusBytes k (shownBy k (settingsOf k s) r n t) ≡ b
 Holds (judges k r n t v) = limits (verdictOf k (settingsOf k none) r n t) ≡ v
@@ -78,6 +86,7 @@ Holds (tells f p) = OfA f (HasStatus p)
 Holds (builds f w p n) = OfA f (Gets w p n)
 Holds (reaches f w p n) = OfA f (ReachedBy w p n)
 Holds (refuses f w n) = OfA f (RefusedBy w n)
+Holds (answers f p n k) = OfA f (Answers p n k)
 
 abbrev pub AllHold : List Case → Type 0
 AllHold [] = Unit {0}
@@ -123,9 +132,13 @@ threeSpeeds = fanAt (on 0x23) 120 ++ fanAt (on 0x24) 120 ++ fanAt (on 0x25) 120
 abbrev pub identified : List ℕ
 identified = (0x00 ∷ 0x80 ∷ 0x00 ∷ 0x23 ∷ []) ++ (0x00 ∷ 0x80 ∷ 0x00 ∷ 0x24 ∷ []) ++ (0x00 ∷ 0x80 ∷ 0x00 ∷ 0x25 ∷ [])
 
+-- the header of a control page, with this length and generation code
+abbrev heading : ℕ → ℕ → List ℕ
+heading l g = 0x02 ∷ 0x00 ∷ 0x00 ∷ l ∷ 0x00 ∷ 0x00 ∷ 0x00 ∷ g ∷ []
+
 -- a control page for A: its overall element, and the three individual ones
 abbrev pub control : List ℕ → List ℕ → List ℕ → List ℕ → List ℕ
-control o x y z = (0x02 ∷ 0x00 ∷ 0x00 ∷ 0x14 ∷ 0x00 ∷ 0x00 ∷ 0x00 ∷ 0x07 ∷ []) ++ o ++ x ++ y ++ z
+control o x y z = heading 0x14 0x07 ++ o ++ x ++ y ++ z
 
 -- elements of a page: one that asks for SPEED 5, one that keeps a fan ON at its speed, one that asks for IDENT beside that, one without SELECT
 abbrev requests : List ℕ
@@ -192,4 +205,15 @@ table =
     ∷ judges Current 359 350 (warning 5) highWarning
     -- V −1, N 1,200, low critical 20: CRIT UNDER, bytes FF FF
     ∷ shows Voltage none 0xffff 1200 (0 ∷ 0 ∷ 0 ∷ 20 ∷ []) (0x02 ∷ 0x01 ∷ 0xff ∷ 0xff ∷ [])
+    -- request One. 23 or 25 bytes whose length field says 24: 4
+    ∷ answers fansA (heading 0x14 0x07 ++ replicate 15 0) 4 0
+    ∷ answers fansA (heading 0x14 0x07 ++ replicate 17 0) 4 0
+    -- 28 bytes that agree with their length field, where A's types need 24: 12, whatever the generation code
+    ∷ answers fansA (heading 0x18 0x07 ++ replicate 20 0) 12 0
+    ∷ answers fansA (heading 0x18 0x08 ++ replicate 20 0) 12 0
+    -- 24 bytes of another generation: 5
+    ∷ answers fansA (heading 0x14 0x08 ++ replicate 16 0) 5 0
+    -- a reserved bit in byte 0 of the middle fan's element: 6 at 16, whatever stands behind it
+    ∷ answers fansA (control silent silent (0x88 ∷ 0x00 ∷ 0x00 ∷ 0x20 ∷ []) silent) 6 16
+    ∷ answers fansA (control silent silent (0x88 ∷ 0x00 ∷ 0x01 ∷ 0x20 ∷ []) (0x81 ∷ 0x00 ∷ 0x00 ∷ 0x20 ∷ [])) 6 16
     ∷ []

@@ -2,25 +2,27 @@
 use mathlib.Core.Path.{_≡_, sym, ap, _∙_}
 use mathlib.Core.List.{List}
 use Prim.Native.Nat.{ℕ}
-use Rattle.refusals.specs.declared.Answer.{Answer}
+use Rattle.refusals.specs.declared.PageAnswer.{PageAnswer}
 use Rattle.refusals.specs.declared.Written.{Written}
-use Rattle.refusals.specs.Numbers.{answerNumber, writtenNumber, bytesWritten}
+use Rattle.refusals.specs.Numbers.{answerNumber, pageNumber, pageOffset, writtenNumber, bytesWritten}
 use Rattle.build_page.specs.declared.built.Built.{Built}
 use Rattle.build_page.specs.Outcome.{builtNumber, bytesBuilt, selectsBuilt}
 use Rattle.build_page.proofs.PromiseKept.{settles}
 use Rattle.promises.specs.Promises.{Check, WriteConfiguration, WriteStatus, WriteThresholds, ReadConfiguration, ReadStatus, ReadThresholds, RewriteConfiguration, RewriteStatus, RewriteThresholds, ApplyControl, ApplyThresholds, BuildControl}
-use Rattle.promises.specs.PromisesForC.{Numbered, NumberedWritten, NumberedBuilt, CheckForC, WriteConfigurationForC, WriteStatusForC, WriteThresholdsForC, ReadConfigurationForC, ReadStatusForC, ReadThresholdsForC, RewriteConfigurationForC, RewriteStatusForC, RewriteThresholdsForC, ApplyControlForC, ApplyThresholdsForC, BuildControlForC}
-use Rattle.promises.specs.Settled.{OneAnswer, OneOutcome, OneWritten, OneBuilt}
+use Rattle.promises.specs.PromisesForC.{NumberedPage, NumberedWritten, NumberedBuilt, CheckForC, WriteConfigurationForC, WriteStatusForC, WriteThresholdsForC, ReadConfigurationForC, ReadStatusForC, ReadThresholdsForC, RewriteConfigurationForC, RewriteStatusForC, RewriteThresholdsForC, ApplyControlForC, ApplyThresholdsForC, BuildControlForC}
+use Rattle.promises.specs.Settled.{OneAnswer, OneOutcome, OneTold, OneBuilt}
 
 -- an answer that is told, and memory that follows from it
 told : {R : Type 0} (a : R) (f : R → List ℕ) → OneOutcome (λ (r : R) (o : List ℕ). (r ≡ a) × (o ≡ f r))
 told a f r q y z h l = let e = h .0 ∙ sym (l .0) in (e, h .1 ∙ ap f e ∙ sym (l .1))
 
 -- so it is for C, whatever the promise
-numbered : {P : Answer → List ℕ → Type 0} → OneOutcome P → OneOutcome (λ (n : ℕ) (o : List ℕ). Numbered (λ r. P r o) n)
-numbered u n m y z h l = let e = u (h .0) (l .0) y z (h .1) (l .1) in (h .2 ∙ ap answerNumber (e .0) ∙ sym (l .2), e .1)
+numbered-page : {P : PageAnswer → List ℕ → Type 0} → OneOutcome P → OneTold (λ (n : ℕ) (o : List ℕ) (k : ℕ). NumberedPage (λ r. P r o) n k)
+numbered-page u n m y z b c h l =
+    let e = u (h .0) (l .0) y z (h .1) (l .1) in
+    (h .2 ∙ ap pageNumber (e .0) ∙ sym (l .2), e .1, h .3 ∙ ap pageOffset (e .0) ∙ sym (l .3))
 
-numbered-written : {P : Written → List ℕ → Type 0} → OneOutcome P → OneWritten (λ (n : ℕ) (o : List ℕ) (b : ℕ). NumberedWritten (λ r. P r o) n b)
+numbered-written : {P : Written → List ℕ → Type 0} → OneOutcome P → OneTold (λ (n : ℕ) (o : List ℕ) (b : ℕ). NumberedWritten (λ r. P r o) n b)
 numbered-written u n m y z b c h l =
     let e = u (h .0) (l .0) y z (h .1) (l .1) in
     (h .2 ∙ ap writtenNumber (e .0) ∙ sym (l .2), e .1, h .3 ∙ ap bytesWritten (e .0) ∙ sym (l .3))
@@ -81,38 +83,38 @@ build-control shelf wanted out = settles shelf wanted out
 pub ses-check : (shelf : List ℕ) → OneAnswer (CheckForC shelf)
 ses-check shelf n m h l = h .2 ∙ ap answerNumber (check shelf (h .0) (l .0) (h .1) (l .1)) ∙ sym (l .2)
 
-pub ses-write-configuration : (shelf out : List ℕ) → OneWritten (WriteConfigurationForC shelf out)
+pub ses-write-configuration : (shelf out : List ℕ) → OneTold (WriteConfigurationForC shelf out)
 ses-write-configuration shelf out = numbered-written (write-configuration shelf out)
 
-pub ses-write-status : (shelf out : List ℕ) → OneWritten (WriteStatusForC shelf out)
+pub ses-write-status : (shelf out : List ℕ) → OneTold (WriteStatusForC shelf out)
 ses-write-status shelf out = numbered-written (write-status shelf out)
 
-pub ses-write-thresholds : (shelf out : List ℕ) → OneWritten (WriteThresholdsForC shelf out)
+pub ses-write-thresholds : (shelf out : List ℕ) → OneTold (WriteThresholdsForC shelf out)
 ses-write-thresholds shelf out = numbered-written (write-thresholds shelf out)
 
-pub ses-read-configuration : (page configuration : List ℕ) → OneOutcome (ReadConfigurationForC page configuration)
-ses-read-configuration page configuration = numbered (read-configuration page configuration)
+pub ses-read-configuration : (page configuration : List ℕ) → OneTold (ReadConfigurationForC page configuration)
+ses-read-configuration page configuration = numbered-page (read-configuration page configuration)
 
-pub ses-read-status : (configuration page fields : List ℕ) → OneOutcome (ReadStatusForC configuration page fields)
-ses-read-status configuration page fields = numbered (read-status configuration page fields)
+pub ses-read-status : (configuration page fields : List ℕ) → OneTold (ReadStatusForC configuration page fields)
+ses-read-status configuration page fields = numbered-page (read-status configuration page fields)
 
-pub ses-read-thresholds : (configuration page fields : List ℕ) → OneOutcome (ReadThresholdsForC configuration page fields)
-ses-read-thresholds configuration page fields = numbered (read-thresholds configuration page fields)
+pub ses-read-thresholds : (configuration page fields : List ℕ) → OneTold (ReadThresholdsForC configuration page fields)
+ses-read-thresholds configuration page fields = numbered-page (read-thresholds configuration page fields)
 
-pub ses-rewrite-configuration : (configuration out : List ℕ) → OneWritten (RewriteConfigurationForC configuration out)
+pub ses-rewrite-configuration : (configuration out : List ℕ) → OneTold (RewriteConfigurationForC configuration out)
 ses-rewrite-configuration configuration out = numbered-written (rewrite-configuration configuration out)
 
-pub ses-rewrite-status : (configuration fields out : List ℕ) → OneWritten (RewriteStatusForC configuration fields out)
+pub ses-rewrite-status : (configuration fields out : List ℕ) → OneTold (RewriteStatusForC configuration fields out)
 ses-rewrite-status configuration fields out = numbered-written (rewrite-status configuration fields out)
 
-pub ses-rewrite-thresholds : (configuration fields out : List ℕ) → OneWritten (RewriteThresholdsForC configuration fields out)
+pub ses-rewrite-thresholds : (configuration fields out : List ℕ) → OneTold (RewriteThresholdsForC configuration fields out)
 ses-rewrite-thresholds configuration fields out = numbered-written (rewrite-thresholds configuration fields out)
 
-pub ses-apply-control : (shelf page : List ℕ) → OneOutcome (ApplyControlForC shelf page)
-ses-apply-control shelf page = numbered (apply-control shelf page)
+pub ses-apply-control : (shelf page : List ℕ) → OneTold (ApplyControlForC shelf page)
+ses-apply-control shelf page = numbered-page (apply-control shelf page)
 
-pub ses-apply-thresholds : (shelf page : List ℕ) → OneOutcome (ApplyThresholdsForC shelf page)
-ses-apply-thresholds shelf page = numbered (apply-thresholds shelf page)
+pub ses-apply-thresholds : (shelf page : List ℕ) → OneTold (ApplyThresholdsForC shelf page)
+ses-apply-thresholds shelf page = numbered-page (apply-thresholds shelf page)
 
 pub ses-build-control : (shelf wanted out : List ℕ) → OneBuilt (BuildControlForC shelf wanted out)
 ses-build-control shelf wanted out = numbered-built (build-control shelf wanted out)

@@ -8,6 +8,8 @@ use lib.Seq.{drop-length}
 use Rattle.bits.specs.Numbers.{Bytes}
 use Rattle.refusals.specs.declared.Answer.{Answer}
 use Rattle.refusals.specs.declared.Answer.the-variants.{Accepted}
+use Rattle.refusals.specs.declared.PageAnswer.{PageAnswer}
+use Rattle.refusals.specs.declared.PageAnswer.the-variants as page
 use Rattle.refusals.specs.declared.Written.{Written}
 use Rattle.refusals.specs.Outcomes.{writes, outAfter, placed, WritesPage, HandsBack}
 use Rattle.shelf.specs.Limits.{elementPlace}
@@ -27,7 +29,7 @@ use Rattle.promises.specs.Demands.{WrittenAgain}
 use Rattle.promises.proofs.StatusRewritten as status
 
 -- what an accepting reader leaves is the record, in the place that was lent
-handed : (a : Answer) (told old : List ℕ) {r : Answer} {f : List ℕ} → HandsBack a told old r f → r ≡ Accepted → (a ≡ Accepted) × (f ≡ placed told old)
+handed : (a : PageAnswer) (told old : List ℕ) {r : PageAnswer} {f : List ℕ} → HandsBack a told old r f → r ≡ page.Accepted → (a ≡ page.Accepted) × (f ≡ placed told old)
 handed a told old h e = (sym (h .0) ∙ e, h .1 ∙ rw e)
 
 -- what is placed into a place of its own length
@@ -41,16 +43,16 @@ rewritten a page p out {w} e q h =
     (h .0 ∙ ap₂ (λ (x : Answer) (y : List ℕ). writes x y out) e q, h .1 ∙ ap (λ (y : List ℕ). outAfter w y out) q)
 
 -- a configuration is lent at its length, which its type says
-pub configuration-again : (p old out : List ℕ) → Bytes p → length old ≡ elementPlace 0 → {r : Answer} {c : List ℕ} {w : Written} {o : List ℕ}
-    → ReadConfiguration p old r c → r ≡ Accepted → RewriteConfiguration c out w o → WrittenAgain p out w o
+pub configuration-again : (p old out : List ℕ) → Bytes p → length old ≡ elementPlace 0 → {r : PageAnswer} {c : List ℕ} {w : Written} {o : List ℕ}
+    → ReadConfiguration p old r c → r ≡ page.Accepted → RewriteConfiguration c out w o → WrittenAgain p out w o
 configuration-again p old out b l {r} {c} h e g =
     let t = handed (configurationRead p) (configurationOf p) old h e in
     let n = configuration.again p b (t .0) in
     let f : c ≡ configurationOf p = t .1 ∙ whole (configurationOf p) old (l ∙ sym (length-configuration p)) in
     rewritten (configurationTested c) (configurationPage c) p out (rw (f, n .0)) (ap configurationPage f ∙ n .1) g
 
-pub status-again : (c p old out : List ℕ) → Bytes c → Bytes p → {r : Answer} {f : List ℕ} {w : Written} {o : List ℕ}
-    → ReadStatus c p old r f → r ≡ Accepted → RewriteStatus c f out w o → WrittenAgain p out w o
+pub status-again : (c p old out : List ℕ) → Bytes c → Bytes p → {r : PageAnswer} {f : List ℕ} {w : Written} {o : List ℕ}
+    → ReadStatus c p old r f → r ≡ page.Accepted → RewriteStatus c f out w o → WrittenAgain p out w o
 status-again c p old out b d {r} {f} h e g =
     let t = handed (statusRead c p) (statusRecord c p) old h e in
     let rest = drop (length (statusRecord c p)) old in
@@ -59,8 +61,8 @@ status-again c p old out b d {r} {f} h e g =
     (ap (statusAgain.pageAgain c) (t .1) ∙ status.page-again c p rest b d (t .0))
     g
 
-pub thresholds-again : (c p old out : List ℕ) → Bytes c → Bytes p → {r : Answer} {f : List ℕ} {w : Written} {o : List ℕ}
-    → ReadThresholds c p old r f → r ≡ Accepted → RewriteThresholds c f out w o → WrittenAgain p out w o
+pub thresholds-again : (c p old out : List ℕ) → Bytes c → Bytes p → {r : PageAnswer} {f : List ℕ} {w : Written} {o : List ℕ}
+    → ReadThresholds c p old r f → r ≡ page.Accepted → RewriteThresholds c f out w o → WrittenAgain p out w o
 thresholds-again c p old out b d {r} {f} h e g =
     let t = handed (thresholdRead c p) (thresholdRecord c p) old h e in
     let rest = drop (length (thresholdRecord c p)) old in

@@ -6,12 +6,13 @@ use mathlib.Core.List.{List}
 use mathlib.Core.Logic.{inl, inr}
 use Prim.Native.Nat.{ℕ}
 use Rattle.bits.specs.Choice.{pick}
-use Rattle.refusals.specs.declared.Refusal.{Refusal}
 use Rattle.refusals.specs.declared.Answer.{Answer}
 use Rattle.refusals.specs.declared.Answer.the-variants as answer
+use Rattle.refusals.specs.declared.PageAnswer.{PageAnswer}
+use Rattle.refusals.specs.declared.PageAnswer.the-variants as told
 use Rattle.refusals.specs.declared.Written.{Written}
 use Rattle.refusals.specs.declared.Written.the-variants as written
-use Rattle.refusals.specs.Numbers.{answerNumber, writtenNumber, bytesWritten}
+use Rattle.refusals.specs.Numbers.{pageNumber, writtenNumber, bytesWritten}
 use Rattle.refusals.specs.Outcomes.{accepts, Changes}
 use Rattle.shelf.specs.SettingsList.{withSettings}
 use Rattle.control_page.specs.Tests as control
@@ -23,22 +24,23 @@ use Rattle.build_page.specs.declared.built.Built.the-variants as built
 use Rattle.build_page.specs.Outcome.{builtNumber, bytesBuilt, selectsBuilt}
 use Rattle.build_page.specs.Promise.{wishTested, Answered, Passed}
 use Rattle.promises.specs.Promises.{WriteConfiguration, WriteStatus, WriteThresholds, ReadConfiguration, ReadStatus, ReadThresholds, RewriteConfiguration, RewriteStatus, RewriteThresholds, ApplyControl, ApplyThresholds, BuildControl}
-use Rattle.promises.specs.PromisesForC.{Numbered, NumberedWritten, NumberedBuilt, WriteConfigurationForC, WriteStatusForC, WriteThresholdsForC, ReadConfigurationForC, ReadStatusForC, ReadThresholdsForC, RewriteConfigurationForC, RewriteStatusForC, RewriteThresholdsForC, ApplyControlForC, ApplyThresholdsForC, BuildControlForC}
+use Rattle.promises.specs.PromisesForC.{NumberedPage, NumberedWritten, NumberedBuilt, WriteConfigurationForC, WriteStatusForC, WriteThresholdsForC, ReadConfigurationForC, ReadStatusForC, ReadThresholdsForC, RewriteConfigurationForC, RewriteStatusForC, RewriteThresholdsForC, ApplyControlForC, ApplyThresholdsForC, BuildControlForC}
 use Rattle.promises.specs.Settled.{KeptIfRefused, KeptForC, KeptWritten, KeptBuilt}
 
 -- a shelf that is changed only where the tests accept
-changes : (a : Answer) (t : Bool) (changed shelf : List ℕ) → t ≡ accepts a → KeptIfRefused answer.Refused (Changes a (pick t changed shelf)) shelf
+changes : (a : PageAnswer) (t : Bool) (changed shelf : List ℕ) → t ≡ accepts a → KeptIfRefused told.Refused (Changes a (pick t changed shelf)) shelf
 changes a t changed shelf e x o h =
     let n : t ≡ false = e ∙ ap accepts (sym (h .0)) in
     h .1 ∙ rw n
 
 -- for C, whatever the promise
-numbered : (P : Answer → List ℕ → Type 0) {old : List ℕ} → KeptIfRefused answer.Refused P old → KeptForC (λ (n : ℕ) (o : List ℕ). Numbered (λ r. P r o) n) old
-numbered P {old} u n o h f = go (h .0) (h .1) (h .2)
+numbered-page : (P : PageAnswer → List ℕ → Type 0) {old : List ℕ} → KeptIfRefused told.Refused P old
+    → KeptForC (λ (n : ℕ) (o : List ℕ) (k : ℕ). NumberedPage (λ r. P r o) n k) old
+numbered-page P {old} u n o k h f = go (h .0) (h .1) (h .2)
   where
-    go : (r : Answer) → P r o → n ≡ answerNumber r → o ≡ old
-    go answer.Accepted k e = absurd (f e)
-    go (answer.Refused x) k e = u x o k
+    go : (r : PageAnswer) → P r o → n ≡ pageNumber r → o ≡ old
+    go told.Accepted w e = absurd (f e)
+    go (told.Refused x) w e = u x o w
 
 numbered-written : (P : Written → List ℕ → Type 0) {old : List ℕ} → KeptIfRefused written.Refused P old
     → KeptWritten (λ (n : ℕ) (o : List ℕ) (b : ℕ). NumberedWritten (λ r. P r o) n b) old
@@ -67,13 +69,13 @@ write-status shelf out x o h = h .1
 pub write-thresholds : (shelf out : List ℕ) → KeptIfRefused written.Refused (WriteThresholds shelf out) out
 write-thresholds shelf out x o h = h .1
 
-pub read-configuration : (page configuration : List ℕ) → KeptIfRefused answer.Refused (ReadConfiguration page configuration) configuration
+pub read-configuration : (page configuration : List ℕ) → KeptIfRefused told.Refused (ReadConfiguration page configuration) configuration
 read-configuration page configuration x o h = h .1
 
-pub read-status : (configuration page fields : List ℕ) → KeptIfRefused answer.Refused (ReadStatus configuration page fields) fields
+pub read-status : (configuration page fields : List ℕ) → KeptIfRefused told.Refused (ReadStatus configuration page fields) fields
 read-status configuration page fields x o h = h .1
 
-pub read-thresholds : (configuration page fields : List ℕ) → KeptIfRefused answer.Refused (ReadThresholds configuration page fields) fields
+pub read-thresholds : (configuration page fields : List ℕ) → KeptIfRefused told.Refused (ReadThresholds configuration page fields) fields
 read-thresholds configuration page fields x o h = h .1
 
 pub rewrite-configuration : (configuration out : List ℕ) → KeptIfRefused written.Refused (RewriteConfiguration configuration out) out
@@ -85,12 +87,12 @@ rewrite-status configuration fields out x o h = h .1
 pub rewrite-thresholds : (configuration fields out : List ℕ) → KeptIfRefused written.Refused (RewriteThresholds configuration fields out) out
 rewrite-thresholds configuration fields out x o h = h .1
 
-pub apply-control : (shelf page : List ℕ) → KeptIfRefused answer.Refused (ApplyControl shelf page) shelf
+pub apply-control : (shelf page : List ℕ) → KeptIfRefused told.Refused (ApplyControl shelf page) shelf
 unfolding control.valid
 apply-control shelf page =
     changes (control.controlTested shelf page) (control.valid shelf page) (withSettings shelf (controlled.broughtTo shelf page)) shelf refl
 
-pub apply-thresholds : (shelf page : List ℕ) → KeptIfRefused answer.Refused (ApplyThresholds shelf page) shelf
+pub apply-thresholds : (shelf page : List ℕ) → KeptIfRefused told.Refused (ApplyThresholds shelf page) shelf
 unfolding thresholds.valid
 apply-thresholds shelf page =
     changes (thresholds.thresholdsTested shelf page) (thresholds.valid shelf page) (withThresholds shelf (takenFrom shelf page)) shelf refl
@@ -118,13 +120,13 @@ pub ses-write-thresholds : (shelf out : List ℕ) → KeptWritten (WriteThreshol
 ses-write-thresholds shelf out = numbered-written (WriteThresholds shelf out) (write-thresholds shelf out)
 
 pub ses-read-configuration : (page configuration : List ℕ) → KeptForC (ReadConfigurationForC page configuration) configuration
-ses-read-configuration page configuration = numbered (ReadConfiguration page configuration) (read-configuration page configuration)
+ses-read-configuration page configuration = numbered-page (ReadConfiguration page configuration) (read-configuration page configuration)
 
 pub ses-read-status : (configuration page fields : List ℕ) → KeptForC (ReadStatusForC configuration page fields) fields
-ses-read-status configuration page fields = numbered (ReadStatus configuration page fields) (read-status configuration page fields)
+ses-read-status configuration page fields = numbered-page (ReadStatus configuration page fields) (read-status configuration page fields)
 
 pub ses-read-thresholds : (configuration page fields : List ℕ) → KeptForC (ReadThresholdsForC configuration page fields) fields
-ses-read-thresholds configuration page fields = numbered (ReadThresholds configuration page fields) (read-thresholds configuration page fields)
+ses-read-thresholds configuration page fields = numbered-page (ReadThresholds configuration page fields) (read-thresholds configuration page fields)
 
 pub ses-rewrite-configuration : (configuration out : List ℕ) → KeptWritten (RewriteConfigurationForC configuration out) out
 ses-rewrite-configuration configuration out = numbered-written (RewriteConfiguration configuration out) (rewrite-configuration configuration out)
@@ -136,10 +138,10 @@ pub ses-rewrite-thresholds : (configuration fields out : List ℕ) → KeptWritt
 ses-rewrite-thresholds configuration fields out = numbered-written (RewriteThresholds configuration fields out) (rewrite-thresholds configuration fields out)
 
 pub ses-apply-control : (shelf page : List ℕ) → KeptForC (ApplyControlForC shelf page) shelf
-ses-apply-control shelf page = numbered (ApplyControl shelf page) (apply-control shelf page)
+ses-apply-control shelf page = numbered-page (ApplyControl shelf page) (apply-control shelf page)
 
 pub ses-apply-thresholds : (shelf page : List ℕ) → KeptForC (ApplyThresholdsForC shelf page) shelf
-ses-apply-thresholds shelf page = numbered (ApplyThresholds shelf page) (apply-thresholds shelf page)
+ses-apply-thresholds shelf page = numbered-page (ApplyThresholds shelf page) (apply-thresholds shelf page)
 
 pub ses-build-control : (shelf wanted out : List ℕ) → KeptBuilt (BuildControlForC shelf wanted out) out
 ses-build-control shelf wanted out = numbered-built (BuildControl shelf wanted out) (build-control shelf wanted out)

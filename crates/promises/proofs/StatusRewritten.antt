@@ -19,6 +19,7 @@ use Rattle.bits.specs.Numbers.{Bytes}
 use Rattle.bits.specs.Rows.{joined}
 use Rattle.bits.proofs.Rows.{joined-same, fours}
 use Rattle.refusals.specs.declared.Answer.the-variants.{Accepted}
+use Rattle.refusals.specs.declared.PageAnswer.the-variants as page
 use Rattle.record_head.specs.Head.{countTested}
 use Rattle.record_head.proofs.Counted.{count-back}
 use Rattle.shelf.specs.Limits.{mostTypes, mostElements}
@@ -36,7 +37,8 @@ use Rattle.shelf_status.specs.ShelfStatus.{bitsByte}
 use Rattle.status_page.specs.Page.{slotBytes, slotRow, pageWith}
 use Rattle.status_record.specs.Entries.{entryAt, bitsAt}
 use Rattle.status_reading.proofs.Refusals.{read-parts, shown-length}
-use Rattle.status_reading.specs.Read.{slotOffending, offence, statusRead, slotShown, bitsOn, statusRecord}
+use Rattle.status_reading.specs.Read.{firstAllows, offence, statusRead, slotShown, bitsOn, statusRecord}
+use Rattle.status_reading.proofs.FirstOffence.{slotOffending, found}
 use Rattle.status_rewritten.specs.Rewritten.{slotMost, entryFormed, entriesFormed, entriesTested, recordTested, pageAgain}
 use Rattle.status_record.proofs.WholeRecord.{bits-back, bits-fine, entry-back}
 
@@ -51,13 +53,11 @@ slot-small c p i = go (slotAt c i .overall)
 -- a page without a refused byte
 module _ (c p : List ℕ) (n : ℕ) (h : offence c p n ≡ slotPlace n) where
   pub own-fine : only (2 ∷ 1 ∷ []) (getD p 1 0) ≡ true
-  unfolding offence
-  own-fine = first-fine slotPlace (slotOffending c p) n (only (2 ∷ 1 ∷ []) (getD p 1 0)) (λ e. omega (arith, e)) h
+  own-fine = first-fine slotPlace (slotOffending c p) n (firstAllows p) (λ e. omega (arith, e)) (found c p n ∙ h)
 
   pub slot-fine : (i : ℕ) → i < n → slotOffending c p i ≡ 4
-  unfolding offence
   slot-fine i l =
-      let e = row-fine slotPlace (slotOffending c p) n (λ j m. omega arith) (sym (pick-yes _ _ _ own-fine) ∙ h) i l in
+      let e = row-fine slotPlace (slotOffending c p) n (λ j m. omega arith) (sym (pick-yes _ _ _ own-fine) ∙ found c p n ∙ h) i l in
       omega (arith, ltb-false (slotOffending c p i) 4 e, slot-small c p i)
 
 -- one slot of an accepted page: what it shows can be shown, and is shown by the same bytes
@@ -119,7 +119,7 @@ own-again : (b : ℕ) → b < 256 → only (2 ∷ 1 ∷ []) b ≡ true → nibbl
 own-again = again-byte (2 ∷ 1 ∷ []) (λ b. nibble false (bit 2 b) (bit 1 b) false) refl
 
 -- writing again what an accepted reading gave, whatever stands behind it
-module _ (c p rest : List ℕ) (hc : Bytes c) (hp : Bytes p) (a : statusRead c p ≡ Accepted) where
+module _ (c p rest : List ℕ) (hc : Bytes c) (hp : Bytes p) (a : statusRead c p ≡ page.Accepted) where
   passed : (configurationFormed c ≡ true) × (headed c p 0x02 (slotsOf c) ≡ Accepted) × (offence c p (slotsOf c) ≡ slotPlace (slotsOf c))
   passed = read-parts c p a
 

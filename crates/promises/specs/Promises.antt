@@ -4,6 +4,7 @@ use mathlib.Core.Path.{_≡_}
 use mathlib.Core.List.{List}
 use Prim.Native.Nat.{ℕ}
 use Rattle.refusals.specs.declared.Answer.{Answer}
+use Rattle.refusals.specs.declared.PageAnswer.{PageAnswer}
 use Rattle.refusals.specs.declared.Written.{Written}
 use Rattle.refusals.specs.Outcomes.{WritesPage, HandsBack, Changes}
 use Rattle.page.specs.Header.{shelfTested, configurationTested}
@@ -36,16 +37,16 @@ WriteStatus shelf out r o = WritesPage (shelfTested shelf) (statusPage shelf) ou
 abbrev pub WriteThresholds : List ℕ → List ℕ → Written → List ℕ → Type 0
 WriteThresholds shelf out r o = WritesPage (shelfTested shelf) (thresholdPage shelf) out r o
 
--- 2, 3, 4, 6; else the configuration that the page tells
-abbrev pub ReadConfiguration : List ℕ → List ℕ → Answer → List ℕ → Type 0
+-- 2, 3, 4, 12, 6; else the configuration that the page tells
+abbrev pub ReadConfiguration : List ℕ → List ℕ → PageAnswer → List ℕ → Type 0
 ReadConfiguration page old r o = HandsBack (configurationRead page) (configurationOf page) old r o
 
--- 1 to 6; else the record of every shown field
-abbrev pub ReadStatus : List ℕ → List ℕ → List ℕ → Answer → List ℕ → Type 0
+-- 1 to 4, 12, 5, 6; else the record of every shown field
+abbrev pub ReadStatus : List ℕ → List ℕ → List ℕ → PageAnswer → List ℕ → Type 0
 ReadStatus configuration page old r o = HandsBack (statusRead configuration page) (statusRecord configuration page) old r o
 
--- 1 to 8; else the record of the thresholds
-abbrev pub ReadThresholds : List ℕ → List ℕ → List ℕ → Answer → List ℕ → Type 0
+-- 1 to 4, 12, 5 to 8; else the record of the thresholds
+abbrev pub ReadThresholds : List ℕ → List ℕ → List ℕ → PageAnswer → List ℕ → Type 0
 ReadThresholds configuration page old r o = HandsBack (thresholdRead configuration page) (thresholdRecord configuration page) old r o
 
 -- 1, 11; else the page that tells the configuration
@@ -62,12 +63,12 @@ abbrev pub RewriteThresholds : List ℕ → List ℕ → List ℕ → Written �
 RewriteThresholds configuration fields out r o =
     WritesPage (thresholdsAgain.recordTested configuration fields) (thresholdsAgain.pageAgain configuration fields) out r o
 
--- 1 to 6; else the shelf with the settings that the page brings it to
-abbrev pub ApplyControl : List ℕ → List ℕ → Answer → List ℕ → Type 0
+-- 1 to 4, 12, 5, 6; else the shelf with the settings that the page brings it to
+abbrev pub ApplyControl : List ℕ → List ℕ → PageAnswer → List ℕ → Type 0
 ApplyControl shelf page r o = Changes (control.controlTested shelf page) (controlled.after shelf page) r o
 
--- 1 to 8; else the shelf with the thresholds that the page brings it to
-abbrev pub ApplyThresholds : List ℕ → List ℕ → Answer → List ℕ → Type 0
+-- 1 to 4, 12, 5 to 8; else the shelf with the thresholds that the page brings it to
+abbrev pub ApplyThresholds : List ℕ → List ℕ → PageAnswer → List ℕ → Type 0
 ApplyThresholds shelf page r o = Changes (thresholds.thresholdsTested shelf page) (thresholds.after shelf page) r o
 
 -- 1, 9, 10, 11; else the best page that reaches the wish

@@ -1,11 +1,12 @@
 -- What C is promised of each call, under the call's name: there is an answer as the call in Rattle gives it, and C is told its number,
--- the bytes written and the SELECTs. Assumes nothing.
+-- the offset of an offending byte, the bytes written and the SELECTs. Assumes nothing.
 use mathlib.Core.Path.{_≡_}
 use mathlib.Core.List.{List}
 use Prim.Native.Nat.{ℕ}
 use Rattle.refusals.specs.declared.Answer.{Answer}
+use Rattle.refusals.specs.declared.PageAnswer.{PageAnswer}
 use Rattle.refusals.specs.declared.Written.{Written}
-use Rattle.refusals.specs.Numbers.{answerNumber, writtenNumber, bytesWritten}
+use Rattle.refusals.specs.Numbers.{answerNumber, pageNumber, pageOffset, writtenNumber, bytesWritten}
 use Rattle.build_page.specs.declared.built.Built.{Built}
 use Rattle.build_page.specs.Outcome.{builtNumber, bytesBuilt, selectsBuilt}
 use Rattle.promises.specs.Promises.{Check, WriteConfiguration, WriteStatus, WriteThresholds, ReadConfiguration, ReadStatus, ReadThresholds, RewriteConfiguration, RewriteStatus, RewriteThresholds, ApplyControl, ApplyThresholds, BuildControl}
@@ -13,6 +14,10 @@ use Rattle.promises.specs.Promises.{Check, WriteConfiguration, WriteStat
 -- the answer r keeps the promise P
 abbrev pub Numbered : (Answer → Type 0) → ℕ → Type 0
 Numbered P number = (r : Answer) × P r × (number ≡ answerNumber r)
+
+-- of a call on a page, whose offset is told too
+abbrev pub NumberedPage : (PageAnswer → Type 0) → ℕ → ℕ → Type 0
+NumberedPage P number offset = (r : PageAnswer) × P r × (number ≡ pageNumber r) × (offset ≡ pageOffset r)
 
 abbrev pub NumberedWritten : (Written → Type 0) → ℕ → ℕ → Type 0
 NumberedWritten P number written = (r : Written) × P r × (number ≡ writtenNumber r) × (written ≡ bytesWritten r)
@@ -33,14 +38,14 @@ WriteStatusForC shelf out number o written = NumberedWritten (λ r. WriteStatus 
 abbrev pub WriteThresholdsForC : List ℕ → List ℕ → ℕ → List ℕ → ℕ → Type 0
 WriteThresholdsForC shelf out number o written = NumberedWritten (λ r. WriteThresholds shelf out r o) number written
 
-abbrev pub ReadConfigurationForC : List ℕ → List ℕ → ℕ → List ℕ → Type 0
-ReadConfigurationForC page old number o = Numbered (λ r. ReadConfiguration page old r o) number
+abbrev pub ReadConfigurationForC : List ℕ → List ℕ → ℕ → List ℕ → ℕ → Type 0
+ReadConfigurationForC page old number o offset = NumberedPage (λ r. ReadConfiguration page old r o) number offset
 
-abbrev pub ReadStatusForC : List ℕ → List ℕ → List ℕ → ℕ → List ℕ → Type 0
-ReadStatusForC configuration page old number o = Numbered (λ r. ReadStatus configuration page old r o) number
+abbrev pub ReadStatusForC : List ℕ → List ℕ → List ℕ → ℕ → List ℕ → ℕ → Type 0
+ReadStatusForC configuration page old number o offset = NumberedPage (λ r. ReadStatus configuration page old r o) number offset
 
-abbrev pub ReadThresholdsForC : List ℕ → List ℕ → List ℕ → ℕ → List ℕ → Type 0
-ReadThresholdsForC configuration page old number o = Numbered (λ r. ReadThresholds configuration page old r o) number
+abbrev pub ReadThresholdsForC : List ℕ → List ℕ → List ℕ → ℕ → List ℕ → ℕ → Type 0
+ReadThresholdsForC configuration page old number o offset = NumberedPage (λ r. ReadThresholds configuration page old r o) number offset
 
 abbrev pub RewriteConfigurationForC : List ℕ → List ℕ → ℕ → List ℕ → ℕ → Type 0
 RewriteConfigurationForC configuration out number o written = NumberedWritten (λ r. RewriteConfiguration configuration out r o) number written
@@ -51,11 +56,11 @@ RewriteStatusForC configuration fields out number o written = NumberedWritten (�
 abbrev pub RewriteThresholdsForC : List ℕ → List ℕ → List ℕ → ℕ → List ℕ → ℕ → Type 0
 RewriteThresholdsForC configuration fields out number o written = NumberedWritten (λ r. RewriteThresholds configuration fields out r o) number written
 
-abbrev pub ApplyControlForC : List ℕ → List ℕ → ℕ → List ℕ → Type 0
-ApplyControlForC shelf page number o = Numbered (λ r. ApplyControl shelf page r o) number
+abbrev pub ApplyControlForC : List ℕ → List ℕ → ℕ → List ℕ → ℕ → Type 0
+ApplyControlForC shelf page number o offset = NumberedPage (λ r. ApplyControl shelf page r o) number offset
 
-abbrev pub ApplyThresholdsForC : List ℕ → List ℕ → ℕ → List ℕ → Type 0
-ApplyThresholdsForC shelf page number o = Numbered (λ r. ApplyThresholds shelf page r o) number
+abbrev pub ApplyThresholdsForC : List ℕ → List ℕ → ℕ → List ℕ → ℕ → Type 0
+ApplyThresholdsForC shelf page number o offset = NumberedPage (λ r. ApplyThresholds shelf page r o) number offset
 
 abbrev pub BuildControlForC : List ℕ → List ℕ → List ℕ → ℕ → List ℕ → ℕ → ℕ → Type 0
 BuildControlForC shelf wanted out number o written selects = NumberedBuilt (λ r. BuildControl shelf wanted out r o) number written selects

@@ -2,7 +2,6 @@
 use mathlib.Core.Path.{_≡_}
 use mathlib.Core.List.{List}
 use Prim.Native.Nat.{ℕ}
-use Rattle.refusals.specs.declared.Refusal.{Refusal}
 
 -- of a call that is lent nothing to be changed
 abbrev pub OneAnswer : {R : Type 0} → (R → Type 0) → Type 0
@@ -12,22 +11,23 @@ OneAnswer {R} P = (r q : R) → P r → P q → r ≡ q
 abbrev pub OneOutcome : {R : Type 0} → (R → List ℕ → Type 0) → Type 0
 OneOutcome {R} P = (r q : R) (y z : List ℕ) → P r y → P q z → (r ≡ q) × (y ≡ z)
 
--- for C also the bytes written
-abbrev pub OneWritten : (ℕ → List ℕ → ℕ → Type 0) → Type 0
-OneWritten P = (n m : ℕ) (y z : List ℕ) (b c : ℕ) → P n y b → P m z c → (n ≡ m) × (y ≡ z) × (b ≡ c)
+-- for C also the bytes written, or the offset
+abbrev pub OneTold : (ℕ → List ℕ → ℕ → Type 0) → Type 0
+OneTold P = (n m : ℕ) (y z : List ℕ) (b c : ℕ) → P n y b → P m z c → (n ≡ m) × (y ≡ z) × (b ≡ c)
 
 -- and the SELECTs
 abbrev pub OneBuilt : (ℕ → List ℕ → ℕ → ℕ → Type 0) → Type 0
 OneBuilt P = (n m : ℕ) (y z : List ℕ) (b c k l : ℕ) → P n y b k → P m z c l → (n ≡ m) × (y ≡ z) × (b ≡ c) × (k ≡ l)
 
 -- a refusal leaves what was lent as it was
-abbrev pub KeptIfRefused : {R : Type 0} → (Refusal → R) → (R → List ℕ → Type 0) → List ℕ → Type 0
-KeptIfRefused refused P old = (x : Refusal) (o : List ℕ) → P (refused x) o → o ≡ old
+abbrev pub KeptIfRefused : {X R : Type 0} → (X → R) → (R → List ℕ → Type 0) → List ℕ → Type 0
+KeptIfRefused {X} refused P old = (x : X) (o : List ℕ) → P (refused x) o → o ≡ old
 
--- for C, which is told 0 bytes then and, of a page that is built, 0 SELECTs
-abbrev pub KeptForC : (ℕ → List ℕ → Type 0) → List ℕ → Type 0
-KeptForC P old = (n : ℕ) (o : List ℕ) → P n o → (n ≡ 0 → ⊥) → o ≡ old
+-- for C, where a number k is told too
+abbrev pub KeptForC : (ℕ → List ℕ → ℕ → Type 0) → List ℕ → Type 0
+KeptForC P old = (n : ℕ) (o : List ℕ) (k : ℕ) → P n o k → (n ≡ 0 → ⊥) → o ≡ old
 
+-- 0 bytes are told then and, of a page that is built, 0 SELECTs
 abbrev pub KeptWritten : (ℕ → List ℕ → ℕ → Type 0) → List ℕ → Type 0
 KeptWritten P old = (n : ℕ) (o : List ℕ) (b : ℕ) → P n o b → (n ≡ 0 → ⊥) → (o ≡ old) × (b ≡ 0)
 

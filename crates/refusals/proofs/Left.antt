@@ -12,6 +12,8 @@ use Rattle.refusals.specs.declared.Refusal.{Refusal}
 use Rattle.refusals.specs.declared.Refusal.the-variants.{OutputTooShort}
 use Rattle.refusals.specs.declared.Answer.{Answer}
 use Rattle.refusals.specs.declared.Answer.the-variants as answer
+use Rattle.refusals.specs.declared.PageAnswer.{PageAnswer}
+use Rattle.refusals.specs.declared.PageAnswer.the-variants as page
 use Rattle.refusals.specs.declared.Written.{Written}
 use Rattle.refusals.specs.declared.Written.the-variants.{Bytes, Refused}
 use Rattle.refusals.specs.Outcomes.{fitted, passedOn, placed, WritesPage, HandsBack}
@@ -31,8 +33,8 @@ fits-not k room {r} e = go (leb k room) e
     go true q = let z : _≡_ {A = ℕ} 0 1 = cc in absurd (omega arith)
     go false q = (refl, cc)
 
-module _ (a : Answer) (told old : List ℕ) {b : Answer} (h : b ≡ a) where
-  pub read-handed : {o : List ℕ} → b ≡ answer.Accepted → o ≡ placed told old → HandsBack a told old b o
+module _ (a : PageAnswer) (told old : List ℕ) {b : PageAnswer} (h : b ≡ a) where
+  pub read-handed : {o : List ℕ} → b ≡ page.Accepted → o ≡ placed told old → HandsBack a told old b o
   read-handed u e = (h, e ∙ sym (rw u))
 
 module _ (a : Answer) (page out : List ℕ) {b : Answer} (h : b ≡ a) where

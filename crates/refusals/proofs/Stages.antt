@@ -2,12 +2,15 @@
 use mathlib.Core.Path.{_≡_, refl, sym, ap, _∙_}
 use Prim.Native.Nat.{ℕ}
 use native.Mathlib.Omega.{arith}
+use borrow.Author.Tests.{eq-eqb, ne-eqb}
+use Rattle.bits.proofs.Logic.{pick-yes, pick-no}
 use Rattle.refusals.specs.declared.Refusal.{Refusal}
 use Rattle.refusals.specs.declared.Answer.{Answer}
 use Rattle.refusals.specs.declared.Answer.the-variants as answer
+use Rattle.refusals.specs.declared.PageAnswer.{PageAnswer}
 use Rattle.refusals.specs.declared.Tested.{Tested}
 use Rattle.refusals.specs.declared.Tested.the-variants.{Slots, Refused}
-use Rattle.refusals.specs.Outcomes.{next, withSlots, answerOf}
+use Rattle.refusals.specs.Outcomes.{next, ofPage, notAllowedAt, offenceTested, pageNext, withSlots, answerOf}
 
 module _ (x rest : Answer) {a : Answer} (h : a ≡ x) where
   pub stopped : {r : Refusal} → a ≡ answer.Refused r → a ≡ next x rest
@@ -15,6 +18,22 @@ module _ (x rest : Answer) {a : Answer} (h : a ≡ x) where
 
   pub gone-on : {b : Answer} → a ≡ answer.Accepted → b ≡ rest → b ≡ next x rest
   gone-on u q = q ∙ sym (rw (← h, u))
+
+-- of a page, behind stages that tell no offset
+module _ (x : Answer) (rest : PageAnswer) {a : Answer} (h : a ≡ x) where
+  pub page-stopped : {r : Refusal} {b : PageAnswer} → a ≡ answer.Refused r → b ≡ ofPage a → b ≡ pageNext x rest
+  page-stopped u q = q ∙ ap ofPage u ∙ sym (rw (← h, u))
+
+  pub page-gone-on : {b : PageAnswer} → a ≡ answer.Accepted → b ≡ rest → b ≡ pageNext x rest
+  page-gone-on u q = q ∙ sym (rw (← h, u))
+
+-- 6, and the stages behind it
+module _ (k n : ℕ) (rest : Answer) where
+  pub offended : {b : PageAnswer} → (k ≡ n → ⊥) → b ≡ notAllowedAt k → b ≡ offenceTested k n rest
+  offended t q = q ∙ sym (pick-no _ _ _ (ne-eqb k n t))
+
+  pub none-offended : {a : Answer} {b : PageAnswer} → k ≡ n → a ≡ rest → b ≡ ofPage a → b ≡ offenceTested k n rest
+  none-offended t h q = q ∙ ap ofPage h ∙ sym (pick-yes _ _ _ (eq-eqb k n t))
 
 -- tests that counted the slots
 module _ (x : Answer) (m : ℕ) {t : Tested} (h : t ≡ withSlots x m) where
@@ -43,7 +62,16 @@ module _ (x : Answer) (m : ℕ) {t : Tested} (h : t ≡ withSlots x m) where
     pub count-passed : {n : ℕ} {b : Answer} → t ≡ Slots n → b ≡ rest n → b ≡ next x (rest m)
     count-passed u p = let e = slots-told u in p ∙ ap rest (e .1) ∙ sym (rw (e .0))
 
-    -- where the count is handed on
+  -- of a page
+  module _ (rest : ℕ → PageAnswer) where
+    pub page-count-refused : {a : Answer} {r : Refusal} {b : PageAnswer} → t ≡ Refused r → a ≡ answerOf t → b ≡ ofPage a → b ≡ pageNext x (rest m)
+    page-count-refused u e q = let w = answer-told u e in page-stopped x (rest m) (w .0) (w .1) q
+
+    pub page-count-passed : {n : ℕ} {b : PageAnswer} → t ≡ Slots n → b ≡ rest n → b ≡ pageNext x (rest m)
+    page-count-passed u p = let e = slots-told u in p ∙ ap rest (e .1) ∙ sym (rw (e .0))
+
+  -- where the count is handed on
+  module _ (rest : ℕ → Answer) where
     pub count-stopped : {r : Refusal} → t ≡ Refused r → t ≡ withSlots (next x (rest m)) m
     count-stopped u = u ∙ sym (rw (refusal-told u))
 

@@ -3,13 +3,15 @@ use mathlib.Core.Path.{_≡_}
 use mathlib.Core.Bool.{Bool, true, false}
 use mathlib.Core.List.{List, _++_}
 use Prim.Native.Nat.{ℕ}
-use lib.Dec.{leb}
+use lib.Dec.{eqb, leb}
 use lib.ListN.{length, drop}
 use Rattle.bits.specs.Choice.{pick}
 use Rattle.refusals.specs.declared.Refusal.{Refusal}
-use Rattle.refusals.specs.declared.Refusal.the-variants.{OutputTooShort}
+use Rattle.refusals.specs.declared.Refusal.the-variants.{NotAllowed, OutputTooShort}
 use Rattle.refusals.specs.declared.Answer.{Answer}
 use Rattle.refusals.specs.declared.Answer.the-variants as answer
+use Rattle.refusals.specs.declared.PageAnswer.{PageAnswer}
+use Rattle.refusals.specs.declared.PageAnswer.the-variants as page
 use Rattle.refusals.specs.declared.Tested.{Tested}
 use Rattle.refusals.specs.declared.Tested.the-variants as tested
 use Rattle.refusals.specs.declared.Written.{Written}
@@ -24,9 +26,27 @@ abbrev pub next : Answer → Answer → Answer
 next answer.Accepted rest = rest
 next (answer.Refused r) rest = answer.Refused r
 
-abbrev pub accepts : Answer → Bool
-accepts answer.Accepted = true
-accepts (answer.Refused r) = false
+-- of a page: the answer of tests that tell no offset
+abbrev pub ofPage : Answer → PageAnswer
+ofPage answer.Accepted = page.Accepted
+ofPage (answer.Refused r) = page.Refused (record { refusal = r; offset = 0 })
+
+-- 6, and the offset of the first offending byte
+abbrev pub notAllowedAt : ℕ → PageAnswer
+notAllowedAt k = page.Refused (record { refusal = NotAllowed; offset = k })
+
+-- 6: the search for the first offending byte of n, which ends at n if it finds none, stopped at k; then the tests after it
+abbrev pub offenceTested : ℕ → ℕ → Answer → PageAnswer
+offenceTested k n rest = pick (eqb k n) (ofPage rest) (notAllowedAt k)
+
+-- the tests of a page, behind those that tell no offset
+abbrev pub pageNext : Answer → PageAnswer → PageAnswer
+pageNext answer.Accepted rest = rest
+pageNext (answer.Refused r) rest = ofPage (answer.Refused r)
+
+abbrev pub accepts : PageAnswer → Bool
+accepts page.Accepted = true
+accepts (page.Refused r) = false
 
 -- the answer of tests that counted n slots
 abbrev pub withSlots : Answer → ℕ → Tested
@@ -65,9 +85,9 @@ abbrev pub placed : List ℕ → List ℕ → List ℕ
 placed told old = told ++ drop (length told) old
 
 -- what a reader hands back; a refused read hands back nothing
-abbrev pub recordAfter : Answer → List ℕ → List ℕ → List ℕ
-recordAfter answer.Accepted told old = placed told old
-recordAfter (answer.Refused r) told old = old
+abbrev pub recordAfter : PageAnswer → List ℕ → List ℕ → List ℕ
+recordAfter page.Accepted told old = placed told old
+recordAfter (page.Refused r) told old = old
 
 -- What is promised of a call, by what it leaves behind: r is its answer, and o the lent memory afterwards. Each settles both.
 
@@ -76,9 +96,9 @@ abbrev pub WritesPage : Answer → List ℕ → List ℕ → Written → List �
 WritesPage a page out r o = (r ≡ writes a page out) × (o ≡ outAfter r page out)
 
 -- a record is handed back in the place of `old`
-abbrev pub HandsBack : Answer → List ℕ → List ℕ → Answer → List ℕ → Type 0
+abbrev pub HandsBack : PageAnswer → List ℕ → List ℕ → PageAnswer → List ℕ → Type 0
 HandsBack a told old r o = (r ≡ a) × (o ≡ recordAfter r told old)
 
 -- a shelf is changed to what it is after the call
-abbrev pub Changes : Answer → List ℕ → Answer → List ℕ → Type 0
+abbrev pub Changes : PageAnswer → List ℕ → PageAnswer → List ℕ → Type 0
 Changes a after r o = (r ≡ a) × (o ≡ after)

@@ -1,9 +1,11 @@
-// The refusals, and the answers of calls: of one that tests or acts, of tests that count the slots, and of one that writes.
+// The refusals, and the answers of calls: of one that tests, of one that takes a page, of tests that count the slots, and of one that
+// writes.
 //
 // A refusal is a value with a number; every promise speaks of the value, and `numberOf` says which number it is.
 ghost use mathlib.Core.Path.{_≡_};
-ghost use Rattle.refusals.specs.Numbers.{numberOf, answerNumber, writtenNumber, bytesWritten};
-ghost use Rattle.refusals.specs.Outcomes.{withSlots, answerOf, fitted, writtenAnswer, passedOn};
+ghost use Rattle.refusals.specs.declared.Answer.the-variants.{Accepted};
+ghost use Rattle.refusals.specs.Numbers.{numberOf, answerNumber, pageNumber, offsetAfter, writtenNumber, bytesWritten};
+ghost use Rattle.refusals.specs.Outcomes.{ofPage, notAllowedAt, offenceTested, withSlots, answerOf, fitted, writtenAnswer, passedOn};
 
 pub enum Refusal {
     ShelfNotWellFormed,
@@ -17,11 +19,24 @@ pub enum Refusal {
     WantedList,
     Unreachable,
     OutputTooShort,
+    NeededLength,
 }
 
 pub enum Answer {
     Accepted,
     Refused(Refusal),
+}
+
+// Why a page is refused, and where: the offset of the first offending byte if it is not allowed. Else 0, where the page code stands,
+// which is never told so.
+pub struct PageRefusal {
+    pub refusal: Refusal,
+    pub offset: u32,
+}
+
+pub enum PageAnswer {
+    Accepted,
+    Refused(PageRefusal),
 }
 
 // What tests come to that count the slots of a page on the way.
@@ -51,6 +66,7 @@ impl Refusal {
             Refusal::WantedList => 9,
             Refusal::Unreachable => 10,
             Refusal::OutputTooShort => 11,
+            Refusal::NeededLength => 12,
         }
     }
 }
@@ -63,6 +79,49 @@ impl Answer {
         let Answer::Refused(refusal) = self else {
             return 0;
         };
+        refusal.number()
+    }
+}
+
+impl PageAnswer {
+    // The answer of tests that tell no offset.
+    pub fn of(answer: Answer) -> PageAnswer
+        ensures { λ r. ⌜ r ≡ ofPage answer ⌝ }
+    {
+        let Answer::Refused(refusal) = answer else {
+            return PageAnswer::Accepted;
+        };
+        PageAnswer::Refused(PageRefusal { refusal, offset: 0 })
+    }
+
+    // The first offending byte stands at k.
+    pub fn not_allowed(k: u32) -> PageAnswer
+        ensures { λ r. ⌜ r ≡ notAllowedAt k ⌝ }
+    {
+        let refusal = Refusal::NotAllowed;
+        PageAnswer::Refused(PageRefusal { refusal, offset: k })
+    }
+
+    // What a search for the first offending byte of n comes to that stopped at k.
+    pub fn searched(k: u32, n: u32) -> PageAnswer
+        ensures { λ r. ⌜ r ≡ offenceTested k n Accepted ⌝ }
+    {
+        if k != n {
+            return PageAnswer::not_allowed(k);
+        }
+        PageAnswer::Accepted
+    }
+
+    // The refusal's number, or 0. The offset is set where it is refused.
+    pub fn tell(self, offset: &mut u32) -> u8
+        ensures { λ r. ⌜ r ≡ pageNumber self ⌝ }
+        ensures { λ _. ⌜ now (offset .exit) ≡ offsetAfter self (now (offset .entry)) ⌝ }
+    {
+        let PageAnswer::Refused(told) = self else {
+            return 0;
+        };
+        *offset = told.offset;
+        let refusal = told.refusal;
         refusal.number()
     }
 }

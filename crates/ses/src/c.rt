@@ -1,4 +1,5 @@
-// The public calls for C: a refusal is told by its number, bytes written through a reference.
+// The public calls for C: a refusal is told by its number; bytes written, SELECTs and the offset of an offending byte through
+// references. An offset is 0 unless a refusal tells it.
 use shelf::limits;
 ghost use Rattle.promises.specs.PromisesForC.{CheckForC, WriteConfigurationForC, WriteStatusForC, WriteThresholdsForC, ReadConfigurationForC, ReadStatusForC, ReadThresholdsForC, RewriteConfigurationForC, RewriteStatusForC, RewriteThresholdsForC, ApplyControlForC, ApplyThresholdsForC, BuildControlForC};
 
@@ -40,10 +41,12 @@ pub extern "C" fn ses_write_thresholds(shelf: &[u8], out: &mut [u8], written: &m
 pub extern "C" fn ses_read_configuration(
     page: &[u8],
     configuration: &mut [u8; limits::CONFIGURATION],
+    offset: &mut u32,
 ) -> u8
-    ensures { λ r. ⌜ ReadConfigurationForC (now (page .entry)) (now (configuration .entry)) r (now (configuration .exit)) ⌝ }
+    ensures { λ r. ⌜ ReadConfigurationForC (now (page .entry)) (now (configuration .entry)) r (now (configuration .exit)) (now (offset .exit)) ⌝ }
 {
-    crate::read_configuration(page, configuration).number()
+    *offset = 0;
+    crate::read_configuration(page, configuration).tell(offset)
 }
 
 #[no_mangle]
@@ -51,10 +54,12 @@ pub extern "C" fn ses_read_status(
     configuration: &[u8],
     page: &[u8],
     fields: &mut [u8; status_record::LENGTH],
+    offset: &mut u32,
 ) -> u8
-    ensures { λ r. ⌜ ReadStatusForC (now (configuration .entry)) (now (page .entry)) (now (fields .entry)) r (now (fields .exit)) ⌝ }
+    ensures { λ r. ⌜ ReadStatusForC (now (configuration .entry)) (now (page .entry)) (now (fields .entry)) r (now (fields .exit)) (now (offset .exit)) ⌝ }
 {
-    crate::read_status(configuration, page, fields).number()
+    *offset = 0;
+    crate::read_status(configuration, page, fields).tell(offset)
 }
 
 #[no_mangle]
@@ -62,10 +67,12 @@ pub extern "C" fn ses_read_thresholds(
     configuration: &[u8],
     page: &[u8],
     fields: &mut [u8; threshold_record::reading::LENGTH],
+    offset: &mut u32,
 ) -> u8
-    ensures { λ r. ⌜ ReadThresholdsForC (now (configuration .entry)) (now (page .entry)) (now (fields .entry)) r (now (fields .exit)) ⌝ }
+    ensures { λ r. ⌜ ReadThresholdsForC (now (configuration .entry)) (now (page .entry)) (now (fields .entry)) r (now (fields .exit)) (now (offset .exit)) ⌝ }
 {
-    crate::read_thresholds(configuration, page, fields).number()
+    *offset = 0;
+    crate::read_thresholds(configuration, page, fields).tell(offset)
 }
 
 #[no_mangle]
@@ -110,17 +117,19 @@ pub extern "C" fn ses_rewrite_thresholds(
 }
 
 #[no_mangle]
-pub extern "C" fn ses_apply_control(shelf: &mut [u8], page: &[u8]) -> u8
-    ensures { λ r. ⌜ ApplyControlForC (now (shelf .entry)) (now (page .entry)) r (now (shelf .exit)) ⌝ }
+pub extern "C" fn ses_apply_control(shelf: &mut [u8], page: &[u8], offset: &mut u32) -> u8
+    ensures { λ r. ⌜ ApplyControlForC (now (shelf .entry)) (now (page .entry)) r (now (shelf .exit)) (now (offset .exit)) ⌝ }
 {
-    crate::apply_control(shelf, page).number()
+    *offset = 0;
+    crate::apply_control(shelf, page).tell(offset)
 }
 
 #[no_mangle]
-pub extern "C" fn ses_apply_thresholds(shelf: &mut [u8], page: &[u8]) -> u8
-    ensures { λ r. ⌜ ApplyThresholdsForC (now (shelf .entry)) (now (page .entry)) r (now (shelf .exit)) ⌝ }
+pub extern "C" fn ses_apply_thresholds(shelf: &mut [u8], page: &[u8], offset: &mut u32) -> u8
+    ensures { λ r. ⌜ ApplyThresholdsForC (now (shelf .entry)) (now (page .entry)) r (now (shelf .exit)) (now (offset .exit)) ⌝ }
 {
-    crate::apply_thresholds(shelf, page).number()
+    *offset = 0;
+    crate::apply_thresholds(shelf, page).tell(offset)
 }
 
 #[no_mangle]

@@ -6,6 +6,7 @@ pub mod c;
 use build_page::built::Built;
 use page::testing;
 use refusals::Answer;
+use refusals::PageAnswer;
 use refusals::Tested;
 use refusals::Written;
 use shelf::limits;
@@ -40,7 +41,10 @@ pub fn write_thresholds(shelf: &[u8], out: &mut [u8]) -> Written
     threshold_page_in::writing::write(shelf, out)
 }
 
-pub fn read_configuration(page: &[u8], configuration: &mut [u8; limits::CONFIGURATION]) -> Answer
+pub fn read_configuration(
+    page: &[u8],
+    configuration: &mut [u8; limits::CONFIGURATION],
+) -> PageAnswer
     ensures { λ r. ⌜ ReadConfiguration (now (page .entry)) (now (configuration .entry)) r (now (configuration .exit)) ⌝ }
 {
     configuration_page::reading::read(page, configuration)
@@ -50,7 +54,7 @@ pub fn read_status(
     configuration: &[u8],
     page: &[u8],
     fields: &mut [u8; status_record::LENGTH],
-) -> Answer
+) -> PageAnswer
     ensures { λ r. ⌜ ReadStatus (now (configuration .entry)) (now (page .entry)) (now (fields .entry)) r (now (fields .exit)) ⌝ }
 {
     status_reading::reading::read(configuration, page, fields)
@@ -60,7 +64,7 @@ pub fn read_thresholds(
     configuration: &[u8],
     page: &[u8],
     fields: &mut [u8; threshold_record::reading::LENGTH],
-) -> Answer
+) -> PageAnswer
     ensures { λ r. ⌜ ReadThresholds (now (configuration .entry)) (now (page .entry)) (now (fields .entry)) r (now (fields .exit)) ⌝ }
 {
     threshold_record::reading::read(configuration, page, fields)
@@ -98,13 +102,13 @@ pub fn rewrite_thresholds(
 }
 
 // The `apply` calls act on the shelf in place, and on all of it or nothing.
-pub fn apply_control(shelf: &mut [u8], page: &[u8]) -> Answer
+pub fn apply_control(shelf: &mut [u8], page: &[u8]) -> PageAnswer
     ensures { λ r. ⌜ ApplyControl (now (shelf .entry)) (now (page .entry)) r (now (shelf .exit)) ⌝ }
 {
     control_page::apply(shelf, page)
 }
 
-pub fn apply_thresholds(shelf: &mut [u8], page: &[u8]) -> Answer
+pub fn apply_thresholds(shelf: &mut [u8], page: &[u8]) -> PageAnswer
     ensures { λ r. ⌜ ApplyThresholds (now (shelf .entry)) (now (page .entry)) r (now (shelf .exit)) ⌝ }
 {
     threshold_page_out::apply(shelf, page)

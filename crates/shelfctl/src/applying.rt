@@ -1,6 +1,6 @@
 // The pages that act, applied to a shelf.
-use crate::answer;
-use refusals::Answer;
+use refusals::PageAnswer;
+use refusals::PageRefusal;
 use tool_input::arguments::Act;
 
 // The answer and, if the page is accepted, what the shelf holds afterwards.
@@ -13,12 +13,31 @@ pub fn tell(act: Act, shelf: &mut [u8], page: &[u8]) {
 // Answers whether the page was accepted, after saying so.
 pub fn tell_answer(act: Act, shelf: &mut [u8], page: &[u8]) -> bool {
     let answer = apply(act, shelf, page);
-    answer::tell(answer, b"accepted\n")
+    match answer {
+        PageAnswer::Accepted => {
+            tool_print::text(b"accepted\n");
+            true
+        }
+        PageAnswer::Refused(told) => {
+            tell_refused(shelf, told);
+            false
+        }
+    }
 }
 
-fn apply(act: Act, shelf: &mut [u8], page: &[u8]) -> Answer {
+fn apply(act: Act, shelf: &mut [u8], page: &[u8]) -> PageAnswer {
     match act {
         Act::Control => ses::apply_control(shelf, page),
         Act::Thresholds => ses::apply_thresholds(shelf, page),
+    }
+}
+
+// Why, and what stands at the byte that offends. Offset 0 is that of no such byte.
+fn tell_refused(shelf: &[u8], told: PageRefusal) {
+    let refusal = told.refusal;
+    tool_print::refusal::tell(refusal);
+    let at = told.offset;
+    if at != 0 {
+        tool_show::place::tell(shelf, at);
     }
 }

@@ -1,3 +1,4 @@
 pub mod Refusals
 pub mod Loops
 pub mod WrittenAndRead
+pub mod FirstOffence

@@ -1,18 +1,18 @@
 -- What each step of reading a status page comes to, from what the calls say. Assumes nothing.
 use mathlib.Core.Path.{_≡_, sym, ap, _∙_}
 use mathlib.Core.Bool.{true, false}
-use mathlib.Core.List.{List, [], _∷_}
+use mathlib.Core.List.{List}
 use Prim.Native.Nat.{ℕ, _+_, _<_}
 use lib.ListN.{getD}
 use Rattle.bits.specs.Choice.{pick, allBelow, refusedIn}
-use Rattle.bits.specs.Bits.{only}
 use Rattle.bits.specs.Places.{fourAt}
 use Rattle.bits.proofs.Logic.{pick-yes, pick-no, fails}
 use Rattle.bits.proofs.Offence.{refused-at, refused-none}
 use Rattle.element.specs.Status.{statusOffending, overallOffending, codeAlone, entryOf}
 use Rattle.page.specs.declared.slots.Slot.{Slot}
 use Rattle.page.specs.Slots.{slotAt, slotPlace}
-use Rattle.status_reading.specs.Read.{slotOffending, offence, slotShown}
+use Rattle.status_reading.specs.Read.{firstAllows, offence, slotShown}
+use Rattle.status_reading.proofs.FirstOffence.{slotOffending, found}
 
 -- what the four bytes of slot i say
 module _ (p : List ℕ) (i : ℕ) (at : Slot) {k : ℕ} {e : List ℕ} (u : k ≡ slotPlace i) (h : e ≡ fourAt p k) where
@@ -48,16 +48,13 @@ module _ (c p : List ℕ) (i : ℕ) {at : Slot} (q : at ≡ slotAt c i) where
   slot-shows h = h ∙ rw q
 
 module _ (c p : List ℕ) (n : ℕ) where
-  pub first-byte-refused : only (2 ∷ 1 ∷ []) (getD p 1 0) ≡ false → 1 ≡ offence c p n
-  unfolding offence
-  first-byte-refused e = sym (pick-no _ _ _ e)
+  pub first-byte-refused : firstAllows p ≡ false → 1 ≡ offence c p n
+  first-byte-refused e = sym (pick-no _ _ _ e) ∙ found c p n
 
-  module _ (e : only (2 ∷ 1 ∷ []) (getD p 1 0) ≡ true) where
+  module _ (e : firstAllows p ≡ true) where
     pub slot-refused : (i : ℕ) {k m : ℕ} → i < n → allBelow (fails (refusedIn (slotOffending c p))) i ≡ true → k ≡ slotOffending c p i → k < 4 → m ≡ slotPlace i
         → m + k ≡ offence c p n
-    unfolding offence
-    slot-refused i l a q b u = refused-at slotPlace (slotOffending c p) n i l a q b u ∙ sym (pick-yes _ _ _ e)
+    slot-refused i l a q b u = refused-at slotPlace (slotOffending c p) n i l a q b u ∙ sym (pick-yes _ _ _ e) ∙ found c p n
 
     pub none-refused : {m : ℕ} → allBelow (fails (refusedIn (slotOffending c p))) n ≡ true → m ≡ slotPlace n → m ≡ offence c p n
-    unfolding offence
-    none-refused a u = refused-none slotPlace (slotOffending c p) n a u ∙ sym (pick-yes _ _ _ e)
+    none-refused a u = refused-none slotPlace (slotOffending c p) n a u ∙ sym (pick-yes _ _ _ e) ∙ found c p n

@@ -1,19 +1,18 @@
 -- A status page read: one refusal after the other, and what an accepted one leaves. Assumes nothing.
-use mathlib.Core.Path.{_≡_, refl, sym, ap, _∙_}
+use mathlib.Core.Path.{_≡_, refl, ap, _∙_}
 use mathlib.Core.Bool.{Bool, true, false}
 use mathlib.Core.List.{List, _++_}
 use Prim.Native.Nat.{ℕ, _+_, _≤_}
 use native.Mathlib.Omega.{arith}
-use lib.Dec.{eqb}
 use lib.ListN.{length, getD, drop}
-use borrow.Author.Tests.{eq-eqb, ne-eqb, eqb-true}
+use borrow.Author.Tests.{eq-eqb}
 use Rattle.bits.specs.Choice.{pick}
 use Rattle.bits.specs.Places.{fourAt}
-use Rattle.refusals.specs.declared.Refusal.the-variants.{NotAllowed}
-use Rattle.refusals.specs.declared.Answer.{Answer}
 use Rattle.refusals.specs.declared.Answer.the-variants as answer
-use Rattle.refusals.specs.Outcomes.{unless, next, placed}
-use Rattle.refusals.proofs.AcceptedTests.{held, held-both}
+use Rattle.refusals.specs.declared.PageAnswer.{PageAnswer}
+use Rattle.refusals.specs.declared.PageAnswer.the-variants as page
+use Rattle.refusals.specs.Outcomes.{offenceTested, placed}
+use Rattle.refusals.proofs.AcceptedTests.{held-page, held-offence}
 use Rattle.shelf.specs.Limits.{mostTypes, mostElements}
 use Rattle.shelf_formed.specs.Formed.{HasFront, configurationFormed}
 use Rattle.element.specs.Status.{codeAlone, entryOf}
@@ -28,17 +27,13 @@ use Rattle.status_record.specs.Entries.{recordWith, entryPlace, headPut, entrie
 use Rattle.status_reading.specs.Read.{offence, bytesTested, statusTested, statusRead, slotShown, bitsOn, statusRecord}
 
 -- the page's own tests
-module _ (c p : List ℕ) (n : ℕ) {k m : ℕ} (x : k ≡ offence c p n) (y : m ≡ slotPlace n) where
-  pub byte-refused : (k ≡ m → ⊥) → answer.Refused NotAllowed ≡ bytesTested c p n
-  unfolding bytesTested
-  byte-refused t = sym (rw (← x, ← y, ne-eqb k m t))
-
-  pub bytes-passed : k ≡ m → answer.Accepted ≡ bytesTested c p n
-  unfolding bytesTested
-  bytes-passed t = sym (rw (← x, ← y, eq-eqb k m t))
+pub bytes-tested : (c p : List ℕ) (n : ℕ) {k m : ℕ} {r : PageAnswer} → k ≡ offence c p n → m ≡ slotPlace n → r ≡ offenceTested k m answer.Accepted
+    → r ≡ bytesTested c p n
+unfolding bytesTested
+bytes-tested c p n x y e = e ∙ rw (x, y)
 
 pub parts-read : (c p : List ℕ) → configurationFormed c ≡ true → headed c p 0x02 (slotsOf c) ≡ answer.Accepted → offence c p (slotsOf c) ≡ slotPlace (slotsOf c)
-    → statusRead c p ≡ answer.Accepted
+    → statusRead c p ≡ page.Accepted
 unfolding statusRead statusTested bytesTested
 parts-read c p f h o = rw (f, h, eq-eqb (offence c p (slotsOf c)) (slotPlace (slotsOf c)) o)
 
@@ -52,19 +47,14 @@ shown-length c p i = go (slotAt c i .overall)
     go false = entry-length (slotAt c i .kind) (fourAt p (slotPlace i))
 
 -- what an accepted page says
-module _ (c p : List ℕ) (a : statusRead c p ≡ answer.Accepted) where
+module _ (c p : List ℕ) (a : statusRead c p ≡ page.Accepted) where
   pub read-parts : (configurationFormed c ≡ true) × (headed c p 0x02 (slotsOf c) ≡ answer.Accepted) × (offence c p (slotsOf c) ≡ slotPlace (slotsOf c))
   unfolding statusRead statusTested bytesTested
   read-parts =
       let n = slotsOf c in
-      let t = eqb (offence c p n) (slotPlace n) in
-      let r2 : Answer = unless t NotAllowed answer.Accepted in
-      let h1 = configuration-passed c (next (headed c p 0x02 n) r2) a in
-      let h2 = held-both (headed c p 0x02 n) r2 (h1 .1) in (
-        h1 .0,
-        h2 .0,
-        eqb-true (offence c p n) (slotPlace n) (held t NotAllowed answer.Accepted (h2 .1) .0),
-      )
+      let h1 = configuration-passed c (statusTested c p n) a in
+      let h2 = held-page (headed c p 0x02 n) (bytesTested c p n) (h1 .1) in
+      (h1 .0, h2 .0, held-offence (offence c p n) (slotPlace n) answer.Accepted (h2 .1) .0)
 
   pub read-front : HasFront c
   read-front = configuration-there c (read-parts .0)

@@ -20,6 +20,7 @@ use Rattle.element.specs.Types.{readingAllowed}
 use Rattle.element.specs.Settings.{settingsOf}
 use Rattle.element.specs.Types.{verdictOf}
 use Rattle.refusals.specs.declared.Answer.the-variants.{Accepted}
+use Rattle.refusals.specs.declared.PageAnswer.the-variants as page
 use Rattle.shelf.specs.Limits.{mostTypes, mostElements, elementPlace}
 use Rattle.shelf.specs.Types.{kindAt}
 use Rattle.shelf.specs.Elements.{settingsAt, thresholdsAt, readingAt, nominalAt}
@@ -42,7 +43,8 @@ use Rattle.shelf_status.specs.declared.PageBits.{PageBits}
 use Rattle.shelf_status.specs.ShelfStatus.{shownAt, worst, has, pageBits, bitsByte}
 use Rattle.status_page.specs.Page.{slotBytes, slotRow, pageWith, statusPage, shownIn}
 use Rattle.status_record.specs.Entries.{recordWith, headRow}
-use Rattle.status_reading.specs.Read.{slotOffending, statusRead, slotShown, bitsOn, statusRecord}
+use Rattle.status_reading.specs.Read.{statusRead, slotShown, bitsOn, statusRecord}
+use Rattle.status_reading.proofs.FirstOffence.{slotOffending}
 use Rattle.status_page.proofs.Refusals.{row-length}
 use Rattle.status_reading.proofs.Refusals.{parts-read}
 use Rattle.status_reading.proofs.Loops.{none-refused}
@@ -181,7 +183,7 @@ module _ (s : List ℕ) (hs : Bytes s) (w : wellFormed s ≡ true) where
   none i l = ap not (le-ltb (slotOffending (front s) (statusPage s) i) 4 (omega (arith, not-offending i l)))
 
   -- it is accepted
-  pub told-read : statusRead (front s) (statusPage s) ≡ Accepted
+  pub told-read : statusRead (front s) (statusPage s) ≡ page.Accepted
   told-read =
       let n = slotsOf s in
       let o = none-refused (front s) (statusPage s) n (ap (only (2 ∷ 1 ∷ [])) own ∙ own-only (pageBits s .noncritical) (pageBits s .critical))

@@ -4,7 +4,7 @@ use page::slots;
 use page::slots::Slot;
 use page::testing;
 use refusals::Answer;
-use refusals::Refusal;
+use refusals::PageAnswer;
 use refusals::Tested;
 use shelf_status::PageBits;
 use status_page::writing;
@@ -14,7 +14,7 @@ ghost use lib.ListN.{length, getD};
 ghost use Rattle.bits.specs.Choice.{pick};
 ghost use Rattle.bits.specs.Places.{fourAt};
 ghost use Rattle.element.specs.Status.{statusOffending, overallOffending, codeAlone, entryOf};
-ghost use Rattle.refusals.specs.declared.Answer.the-variants.{Accepted};
+ghost use Rattle.refusals.specs.declared.PageAnswer.the-variants.{Accepted};
 ghost use Rattle.refusals.specs.Outcomes.{placed, HandsBack};
 ghost use Rattle.shelf_formed.specs.Formed.{HasFront};
 ghost use Rattle.page.specs.Slots.{slotsOf, slotPlace};
@@ -104,37 +104,34 @@ fn put_entries(configuration: &[u8], page: &[u8], fields: &mut [u8], n: u16)
 }
 
 // The page's own tests.
-fn test_bytes(configuration: &[u8], page: &[u8], n: u16) -> Answer
+fn test_bytes(configuration: &[u8], page: &[u8], n: u16) -> PageAnswer
     requires { ⌜ HasFront (now configuration) ⌝ }
     requires { ⌜ n ≤ slotsOf (now configuration) ⌝ }
     requires { ⌜ slotPlace n ≤ length (now page) ⌝ }
     ensures { λ r. ⌜ r ≡ bytesTested (now (configuration .entry)) (now (page .entry)) n ⌝ }
 {
-    if first_offence(configuration, page, n) != slots::slot_place(n) {
-        return Answer::Refused(Refusal::NotAllowed);
-    }
-    Answer::Accepted
+    PageAnswer::searched(first_offence(configuration, page, n), slots::slot_place(n))
 }
 
 // A page of n slots, its header and then its bytes.
-fn test_page(configuration: &[u8], page: &[u8], n: u16) -> Answer
+fn test_page(configuration: &[u8], page: &[u8], n: u16) -> PageAnswer
     requires { ⌜ HasFront (now configuration) ⌝ }
     requires { ⌜ n ≤ slotsOf (now configuration) ⌝ }
     ensures { λ r. ⌜ r ≡ statusTested (now (configuration .entry)) (now (page .entry)) n ⌝ }
 {
     let head = header::test(configuration, page, writing::CODE, n);
     let Answer::Accepted = head else {
-        return head;
+        return PageAnswer::of(head);
     };
     test_bytes(configuration, page, n)
 }
 
-pub fn test(configuration: &[u8], page: &[u8]) -> Answer
+pub fn test(configuration: &[u8], page: &[u8]) -> PageAnswer
     ensures { λ r. ⌜ r ≡ statusRead (now (configuration .entry)) (now (page .entry)) ⌝ }
 {
     let configured = testing::configuration_slots(configuration);
     let Tested::Slots(n) = configured else {
-        return configured.answer();
+        return PageAnswer::of(configured.answer());
     };
     test_page(configuration, page, n)
 }
@@ -149,11 +146,15 @@ fn hand_over(configuration: &[u8], page: &[u8], fields: &mut [u8; status_record:
     put_entries(configuration, page, fields, n);
 }
 
-pub fn read(configuration: &[u8], page: &[u8], fields: &mut [u8; status_record::LENGTH]) -> Answer
+pub fn read(
+    configuration: &[u8],
+    page: &[u8],
+    fields: &mut [u8; status_record::LENGTH],
+) -> PageAnswer
     ensures { λ r. ⌜ HandsBack (statusRead (now (configuration .entry)) (now (page .entry))) (statusRecord (now (configuration .entry)) (now (page .entry))) (now (fields .entry)) r (now (fields .exit)) ⌝ }
 {
     let tested = test(configuration, page);
-    let Answer::Accepted = tested else {
+    let PageAnswer::Accepted = tested else {
         return tested;
     };
     hand_over(configuration, page, fields);

@@ -8,9 +8,9 @@ use lib.ListN.{length}
 use Rattle.bits.specs.Places.{fourAt, foursPut}
 use Rattle.bits.proofs.FoursPut.{fours-next, fours-length, fours-joined}
 use Rattle.element.specs.Thresholds.{taken}
-use Rattle.refusals.specs.declared.Refusal.{Refusal}
-use Rattle.refusals.specs.declared.Answer.{Answer}
-use Rattle.refusals.specs.declared.Answer.the-variants.{Accepted, Refused}
+use Rattle.refusals.specs.declared.PageRefusal.{PageRefusal}
+use Rattle.refusals.specs.declared.PageAnswer.{PageAnswer}
+use Rattle.refusals.specs.declared.PageAnswer.the-variants.{Accepted, Refused}
 use Rattle.shelf.specs.Limits.{elementPlace, thresholdsPlace, HasElement}
 use Rattle.shelf.specs.Types.{elementsOf}
 use Rattle.shelf_formed.proofs.FrontOfShelf.{front}
@@ -74,8 +74,8 @@ module _ (s p : List ℕ) where
   all-acted n q e = e ∙ ap partly q ∙ fours-joined thresholdsPlace (thresholdsAfter s p) after-length s (elementsOf s)
 
   -- the call as a whole
-  module _ {a : Answer} (h : a ≡ thresholdsTested s p) where
-    pub refused-after : {r : Refusal} → a ≡ Refused r → s ≡ after s p
+  module _ {a : PageAnswer} (h : a ≡ thresholdsTested s p) where
+    pub refused-after : {r : PageRefusal} → a ≡ Refused r → s ≡ after s p
     unfolding valid
     refused-after u = sym (rw (← h, u))
 

@@ -13,18 +13,23 @@ use Rattle.refusals.specs.declared.Answer.{Answer}
 use Rattle.refusals.specs.declared.Answer.the-variants.{Accepted, Refused}
 use Rattle.refusals.specs.declared.Tested.{Tested}
 use Rattle.refusals.specs.declared.Tested.the-variants.{Slots}
-use Rattle.refusals.specs.Outcomes.{next, withSlots}
-use Rattle.refusals.proofs.Stages.{stopped, gone-on, slots-told}
+use Rattle.refusals.specs.declared.PageRefusal.{PageRefusal}
+use Rattle.refusals.specs.declared.PageAnswer.{PageAnswer}
+use Rattle.refusals.specs.declared.PageAnswer.the-variants as page
+use Rattle.refusals.specs.Outcomes.{ofPage, offenceTested, withSlots}
+use Rattle.refusals.proofs.Stages.{stopped, gone-on, none-offended, slots-told}
 use Rattle.shelf.specs.Types.{elementsOf}
 use Rattle.shelf.specs.Elements.{thresholdsAt}
 use Rattle.page.specs.declared.places.Places.{Places}
 use Rattle.page.specs.Places.{placesOf}
-use Rattle.page.specs.Slots.{slotsOf}
+use Rattle.page.specs.Slots.{slotsOf, slotPlace}
 use Rattle.page.specs.Header.{HasPage, pageTested}
 use Rattle.page.proofs.ElementSlots.{front-there, page-has}
 use Rattle.threshold_rows.specs.Rows.{onPage, HasRows, byteTested, hadTested}
+use Rattle.threshold_rows.proofs.FirstOffence.{byteOffence, byte-found}
+use Rattle.threshold_rows.proofs.ByteTests as rows
 use Rattle.threshold_page_out.specs.Taken.{takenAt}
-use Rattle.threshold_page_out.specs.Tests.{elementOrdered, allOrdered, orderTested, bytesTested}
+use Rattle.threshold_page_out.specs.Tests.{elementOrdered, allOrdered, orderTested, limitsTested, bytesTested}
 use Rattle.threshold_page_out.proofs.PageActs.{after-is}
 
 module _ (s p : List ℕ) where
@@ -43,22 +48,29 @@ module _ (s p : List ℕ) where
 
   -- the page's own tests
   module _ (n : ℕ) where
-    abbrev behind : Answer
-    behind = next (hadTested s p onPage n) (orderTested s p)
+    module _ {b : Answer} (k : b ≡ hadTested s p onPage n) where
+      pub not-had : {r : Refusal} → b ≡ Refused r → b ≡ limitsTested s p n
+      unfolding limitsTested
+      not-had v = stopped (hadTested s p onPage n) (orderTested s p) k v
 
-    module _ {a : Answer} (h : a ≡ byteTested p) where
-      pub byte-refused : {r : Refusal} → a ≡ Refused r → a ≡ bytesTested s p n
+      pub order-last : {d : Answer} → b ≡ Accepted → d ≡ orderTested s p → d ≡ limitsTested s p n
+      unfolding limitsTested
+      order-last v q = gone-on (hadTested s p onPage n) (orderTested s p) k v q
+
+    module _ {b : PageAnswer} (h : b ≡ byteTested p) where
+      abbrev end : ℕ
+      end = slotPlace n
+
+      first-found : {o : PageAnswer} → o ≡ offenceTested (byteOffence p end) end (limitsTested s p n) → o ≡ bytesTested s p n
       unfolding bytesTested
-      byte-refused u = stopped (byteTested p) behind h u
+      first-found q = q ∙ ap (λ (k : ℕ). offenceTested k end (limitsTested s p n)) (byte-found p n)
 
-      module _ (u : a ≡ Accepted) {b : Answer} (k : b ≡ hadTested s p onPage n) where
-        pub not-had : {r : Refusal} → b ≡ Refused r → b ≡ bytesTested s p n
-        unfolding bytesTested
-        not-had v = gone-on (byteTested p) behind h u (stopped (hadTested s p onPage n) (orderTested s p) k v)
+      pub byte-refused : {r : PageRefusal} → b ≡ page.Refused r → b ≡ bytesTested s p n
+      byte-refused u = first-found (rows.byte-refused p end end (λ e. omega (arith, e)) (limitsTested s p n) h u)
 
-        pub order-last : {d : Answer} → b ≡ Accepted → d ≡ orderTested s p → d ≡ bytesTested s p n
-        unfolding bytesTested
-        order-last v q = gone-on (byteTested p) behind h u (gone-on (hadTested s p onPage n) (orderTested s p) k v q)
+      pub limits-last : {a : Answer} {o : PageAnswer} → b ≡ page.Accepted → a ≡ limitsTested s p n → o ≡ ofPage a → o ≡ bytesTested s p n
+      limits-last u e q =
+          first-found (rows.byte-passed p end end (λ w. omega (arith, w)) (limitsTested s p n) h u (none-offended end end (limitsTested s p n) refl e q))
 
 -- the bytes that they read, behind the tests of the shelf and the header
 pub page-room : (s p : List ℕ) {t : Tested} {n : ℕ} → t ≡ withSlots (pageTested s p 0x05) (slotsOf s) → t ≡ Slots n → HasPage s p × (n ≡ slotsOf s)

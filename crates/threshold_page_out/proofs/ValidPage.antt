@@ -3,15 +3,14 @@ use mathlib.Core.Path.{_≡_}
 use mathlib.Core.Bool.{true}
 use mathlib.Core.List.{List}
 use Prim.Native.Nat.{ℕ, _<_}
+use Rattle.bits.specs.Choice.{firstBelow}
 use Rattle.bits.specs.Places.{fourAt}
 use Rattle.bits.proofs.Logic.{below-at}
 use Rattle.element.specs.Types.{had, ordered}
 use Rattle.element.proofs.TypeThresholds.{taken-had}
 use Rattle.refusals.specs.declared.Refusal.the-variants.{NoSuchThreshold, ThresholdOrder}
-use Rattle.refusals.specs.declared.Answer.{Answer}
 use Rattle.refusals.specs.declared.Answer.the-variants.{Accepted}
-use Rattle.refusals.specs.Outcomes.{next}
-use Rattle.refusals.proofs.AcceptedTests.{accepted, held, held-both}
+use Rattle.refusals.proofs.AcceptedTests.{accepted, held, held-both, held-page, held-offence}
 use Rattle.shelf.specs.Types.{elementsOf, kindAt}
 use Rattle.shelf.specs.Elements.{thresholdsAt}
 use Rattle.shelf_formed.specs.Formed.{wellFormed}
@@ -22,18 +21,18 @@ use Rattle.page.specs.Places.{ownSlot, overallSlot, placesOf}
 use Rattle.page.specs.Header.{pageTested}
 use Rattle.page.proofs.HeaderTests.{tested-formed}
 use Rattle.page.proofs.ElementSlots.{own-kind, overall-kind, own-there, overall-there}
-use Rattle.threshold_rows.specs.Rows.{onPage, rowHad, allHad, byteTested, hadTested}
+use Rattle.threshold_rows.specs.Rows.{onPage, rowHad, allHad, byteOffends, hadTested}
 use Rattle.threshold_page_out.specs.Taken.{thresholdsAfter}
-use Rattle.threshold_page_out.specs.Tests.{elementOrdered, allOrdered, orderTested, bytesTested, thresholdsTested, valid}
+use Rattle.threshold_page_out.specs.Tests.{elementOrdered, allOrdered, orderTested, limitsTested, bytesTested, thresholdsTested, valid}
 
 module _ (s p : List ℕ) (v : valid s p ≡ true) where
   parts : (pageTested s p 0x05 ≡ Accepted) × (allHad s p onPage (slotsOf s) ≡ true) × (allOrdered s p ≡ true)
-  unfolding valid thresholdsTested bytesTested
+  unfolding valid thresholdsTested bytesTested limitsTested
   parts =
       let n = slotsOf s in
-      let r : Answer = next (hadTested s p onPage n) (orderTested s p) in
-      let h = held-both (pageTested s p 0x05) (next (byteTested p) r) (accepted (thresholdsTested s p) v) in
-      let h1 = held-both (byteTested p) r (h .1) in
+      let e = slotPlace n in
+      let h = held-page (pageTested s p 0x05) (bytesTested s p n) (accepted (thresholdsTested s p) v) in
+      let h1 = held-offence (firstBelow (byteOffends p) e) e (limitsTested s p n) (h .1) in
       let h2 = held-both (hadTested s p onPage n) (orderTested s p) (h1 .1) in
       (h .0, held (allHad s p onPage n) NoSuchThreshold Accepted (h2 .0) .0, held (allOrdered s p) ThresholdOrder Accepted (h2 .1) .0)
 

@@ -2,16 +2,17 @@
 use mathlib.Core.Bool.{Bool}
 use mathlib.Core.List.{List}
 use Prim.Native.Nat.{ℕ}
-use Rattle.bits.specs.Choice.{pick, allBelow}
+use Rattle.bits.specs.Choice.{pick, allBelow, firstBelow}
 use Rattle.element.specs.Types.{ordered}
 use Rattle.refusals.specs.declared.Refusal.the-variants.{ThresholdOrder}
 use Rattle.refusals.specs.declared.Answer.{Answer}
+use Rattle.refusals.specs.declared.PageAnswer.{PageAnswer}
 use Rattle.refusals.specs.declared.Answer.the-variants.{Accepted}
-use Rattle.refusals.specs.Outcomes.{unless, next, accepts}
+use Rattle.refusals.specs.Outcomes.{unless, offenceTested, next, pageNext, accepts}
 use Rattle.shelf.specs.Types.{elementsOf, kindAt}
-use Rattle.page.specs.Slots.{slotsOf}
+use Rattle.page.specs.Slots.{slotsOf, slotPlace}
 use Rattle.page.specs.Header.{pageTested}
-use Rattle.threshold_rows.specs.Rows.{onPage, byteTested, hadTested}
+use Rattle.threshold_rows.specs.Rows.{onPage, byteOffends, hadTested}
 use Rattle.threshold_page_out.specs.Taken.{thresholdsAfter, takenFrom, withThresholds}
 
 -- element j would keep the threshold order
@@ -25,13 +26,17 @@ allOrdered s p = allBelow (elementOrdered s p) (elementsOf s)
 abbrev pub orderTested : List ℕ → List ℕ → Answer
 orderTested s p = unless (allOrdered s p) ThresholdOrder Accepted
 
--- 6: byte 1 is reserved; 7: a byte of the n slots, overall or individual, that the type doesn't have; 8: the order
-unfoldable pub bytesTested : List ℕ → List ℕ → ℕ → Answer
-bytesTested s p n = next (byteTested p) (next (hadTested s p onPage n) (orderTested s p))
+-- 7: a byte of the n slots, overall or individual, that the type doesn't have; 8: the order
+unfoldable pub limitsTested : List ℕ → List ℕ → ℕ → Answer
+limitsTested s p n = next (hadTested s p onPage n) (orderTested s p)
 
--- 1 to 5: the shelf and the header; 6, 7, 8: the bytes
-unfoldable pub thresholdsTested : List ℕ → List ℕ → Answer
-thresholdsTested s p = next (pageTested s p 0x05) (bytesTested s p (slotsOf s))
+-- 6: byte 1 is reserved; 7, 8: the thresholds
+unfoldable pub bytesTested : List ℕ → List ℕ → ℕ → PageAnswer
+bytesTested s p n = offenceTested (firstBelow (byteOffends p) (slotPlace n)) (slotPlace n) (limitsTested s p n)
+
+-- 1 to 4, 12, 5: the shelf and the header; 6, 7, 8: the bytes
+unfoldable pub thresholdsTested : List ℕ → List ℕ → PageAnswer
+thresholdsTested s p = pageNext (pageTested s p 0x05) (bytesTested s p (slotsOf s))
 
 -- a valid Threshold Out page is one that this shelf accepts
 unfoldable pub valid : List ℕ → List ℕ → Bool

@@ -3,6 +3,7 @@ use crate::acting;
 use page::places;
 use page::places::Places;
 use refusals::Answer;
+use refusals::PageAnswer;
 use refusals::Refusal;
 use refusals::Tested;
 use shelf::types;
@@ -11,7 +12,7 @@ ghost use Rattle.shelf.specs.Limits.{HasElement};
 ghost use Rattle.page.specs.Places.{placesOf, HasSlots};
 ghost use Rattle.page.specs.Slots.{slotsOf};
 ghost use Rattle.page.specs.Header.{HasPage};
-ghost use Rattle.threshold_page_out.specs.Tests.{elementOrdered, orderTested, bytesTested, thresholdsTested};
+ghost use Rattle.threshold_page_out.specs.Tests.{elementOrdered, orderTested, limitsTested, bytesTested, thresholdsTested};
 
 const CODE: u8 = 0x05;
 
@@ -44,16 +45,12 @@ fn test_order(shelf: &[u8], page: &[u8]) -> Answer
     Answer::Accepted
 }
 
-// The page's own tests. 7 is tested of all slots before 8 of any element.
-fn test_bytes(shelf: &[u8], page: &[u8], n: u16) -> Answer
+// 7 is tested of all slots before 8 of any element.
+fn test_limits(shelf: &[u8], page: &[u8], n: u16) -> Answer
     requires { ⌜ HasPage (now shelf) (now page) ⌝ }
     requires { ⌜ n ≡ slotsOf (now shelf) ⌝ }
-    ensures { λ r. ⌜ r ≡ bytesTested (now (shelf .entry)) (now (page .entry)) n ⌝ }
+    ensures { λ r. ⌜ r ≡ limitsTested (now (shelf .entry)) (now (page .entry)) n ⌝ }
 {
-    let byte = threshold_rows::test_byte(page);
-    let Answer::Accepted = byte else {
-        return byte;
-    };
     let had = threshold_rows::test_had(shelf, page, threshold_rows::ON_PAGE, n);
     let Answer::Accepted = had else {
         return had;
@@ -61,12 +58,25 @@ fn test_bytes(shelf: &[u8], page: &[u8], n: u16) -> Answer
     test_order(shelf, page)
 }
 
-pub fn test(shelf: &[u8], page: &[u8]) -> Answer
+// The page's own tests.
+fn test_bytes(shelf: &[u8], page: &[u8], n: u16) -> PageAnswer
+    requires { ⌜ HasPage (now shelf) (now page) ⌝ }
+    requires { ⌜ n ≡ slotsOf (now shelf) ⌝ }
+    ensures { λ r. ⌜ r ≡ bytesTested (now (shelf .entry)) (now (page .entry)) n ⌝ }
+{
+    let byte = threshold_rows::test_byte(page);
+    let PageAnswer::Accepted = byte else {
+        return byte;
+    };
+    PageAnswer::of(test_limits(shelf, page, n))
+}
+
+pub fn test(shelf: &[u8], page: &[u8]) -> PageAnswer
     ensures { λ r. ⌜ r ≡ thresholdsTested (now (shelf .entry)) (now (page .entry)) ⌝ }
 {
     let tested = page::testing::page_slots(shelf, page, CODE);
     let Tested::Slots(n) = tested else {
-        return tested.answer();
+        return PageAnswer::of(tested.answer());
     };
     test_bytes(shelf, page, n)
 }

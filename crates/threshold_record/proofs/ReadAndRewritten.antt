@@ -10,16 +10,17 @@ use Rattle.bits.specs.Rows.{bytesAt}
 use Rattle.bits.specs.Numbers.{Bytes}
 use Rattle.bits.proofs.Rows.{bytes-there, bytes-get, bytes-same, four-same}
 use Rattle.refusals.specs.declared.Answer.the-variants.{Accepted}
+use Rattle.refusals.specs.declared.PageAnswer.the-variants as page
 use Rattle.record_head.specs.Head.{recordHead, countTested}
 use Rattle.record_head.proofs.Counted.{count-back}
 use Rattle.shelf.specs.Limits.{mostTypes, mostElements}
 use Rattle.shelf_formed.specs.Formed.{configurationFormed}
-use Rattle.page.specs.Slots.{slotsOf}
+use Rattle.page.specs.Slots.{slotsOf, slotPlace}
 use Rattle.page.specs.Header.{headed}
 use Rattle.page.proofs.SlotBounds.{configuration-front, slots-bound}
 use Rattle.page.proofs.HeaderBothWays.{length-tested, header-again}
-use Rattle.threshold_rows.proofs.RowTests.{Fine, rows-fine, fine-rows, fine-by}
-use Rattle.threshold_rows.specs.Rows.{onPage, inRecord, rowPlace, rowAt, rowsTested}
+use Rattle.threshold_rows.proofs.RowTests.{Fine, rows-fine, fine-rows, record-passed, fine-by}
+use Rattle.threshold_rows.specs.Rows.{onPage, inRecord, rowPlace, rowAt, offence, limitsTested}
 use Rattle.threshold_record.specs.Read.{thresholdRead, thresholdRecord}
 use Rattle.threshold_record.specs.Rewritten.{entriesTested, recordTested, pageAgain}
 use Rattle.threshold_record.proofs.Refusals.{read-parts}
@@ -46,8 +47,9 @@ module _ (p rest : List ℕ) (n : ℕ) where
   slots-back = bytes-same told p inRecord onPage (4 * n) get
 
 -- writing again what an accepted reading gave, whatever stands behind it
-module _ (c p rest : List ℕ) (a : thresholdRead c p ≡ Accepted) where
-  passed : (configurationFormed c ≡ true) × (headed c p 0x05 (slotsOf c) ≡ Accepted) × (getD p 1 0 ≡ 0) × (rowsTested c p onPage (slotsOf c) ≡ Accepted)
+module _ (c p rest : List ℕ) (a : thresholdRead c p ≡ page.Accepted) where
+  passed : (configurationFormed c ≡ true) × (headed c p 0x05 (slotsOf c) ≡ Accepted) × (getD p 1 0 ≡ 0)
+      × (offence c p onPage (slotsOf c) ≡ slotPlace (slotsOf c)) × (limitsTested c p onPage (slotsOf c) ≡ Accepted)
   passed = read-parts c p a
 
   few : slotsOf c ≤ mostTypes + mostElements
@@ -58,13 +60,13 @@ module _ (c p rest : List ℕ) (a : thresholdRead c p ≡ Accepted) where
 
   entry-fine : (i : ℕ) → i < slotsOf c → Fine c record-told inRecord i
   unfolding thresholdRecord
-  entry-fine i l = fine-by c record-told p inRecord onPage i (row-back p rest (slotsOf c) i l) (rows-fine c p onPage (slotsOf c) (passed .3) i l)
+  entry-fine i l = fine-by c record-told p inRecord onPage i (row-back p rest (slotsOf c) i l) (rows-fine c p onPage (slotsOf c) (passed .3) (passed .4) i l)
 
   pub tested-again : recordTested c record-told ≡ Accepted
   unfolding recordTested entriesTested thresholdRecord
   tested-again =
       let n : countTested record-told (slotsOf c) ≡ Accepted = count-back 0 0 (slotsOf c) (bytesAt p onPage (4 * slotsOf c) ++ rest) (omega (arith, few)) in
-      rw (passed .0, n) (fine-rows c record-told inRecord (slotsOf c) entry-fine)
+      rw (passed .0, n) (record-passed c record-told inRecord (slotsOf c) (fine-rows c record-told inRecord (slotsOf c) entry-fine))
 
   pub page-again : Bytes c → Bytes p → pageAgain c record-told ≡ p
   unfolding pageAgain thresholdRecord

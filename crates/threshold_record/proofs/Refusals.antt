@@ -4,18 +4,19 @@ use mathlib.Core.Bool.{true}
 use mathlib.Core.List.{List, [], _++_}
 use Prim.Native.Nat.{ℕ, _+_, _*_, _≤_}
 use native.Mathlib.Omega.{arith}
-use lib.Dec.{eqb}
 use lib.ListN.{length, getD, length-append}
-use borrow.Author.Tests.{eq-eqb, ne-eqb, eqb-true}
+use borrow.Author.Tests.{eq-eqb}
+use Rattle.bits.specs.Choice.{firstBelow}
 use Rattle.bits.specs.Places.{putFour}
 use Rattle.bits.specs.Rows.{bytesAt, putBytes}
+use Rattle.bits.proofs.Logic.{pick-yes}
 use Rattle.bits.proofs.Rows.{length-bytes-at}
 use Rattle.bits.proofs.RowsPut.{put-behind, four-behind}
-use Rattle.refusals.specs.declared.Refusal.the-variants.{NotAllowed}
 use Rattle.refusals.specs.declared.Answer.{Answer}
 use Rattle.refusals.specs.declared.Answer.the-variants as answer
+use Rattle.refusals.specs.declared.PageAnswer.the-variants as page
 use Rattle.refusals.specs.Outcomes.{placed}
-use Rattle.refusals.proofs.AcceptedTests.{held, held-both}
+use Rattle.refusals.proofs.AcceptedTests.{held-page, held-offence}
 use Rattle.record_head.specs.Head.{recordHead}
 use Rattle.shelf.specs.Limits.{mostTypes, mostElements}
 use Rattle.shelf_formed.specs.Formed.{HasFront, configurationFormed}
@@ -26,27 +27,33 @@ use Rattle.page.proofs.HeaderTests.{head-put}
 use Rattle.page.proofs.HeaderBothWays.{length-tested}
 use Rattle.page.proofs.SlotBounds.{configuration-there, configuration-passed, accepted-there, slots-bound}
 use Rattle.page.proofs.PagePut.{length-header}
-use Rattle.threshold_rows.specs.Rows.{onPage, inRecord, rowPlace, byteTested, rowsTested}
+use Rattle.threshold_rows.specs.Rows.{onPage, inRecord, rowPlace, offence, offends, limitsTested}
+use Rattle.threshold_rows.proofs.FirstOffence.{found}
+use Rattle.threshold_rows.proofs.ByteTests.{byte-zero}
 use Rattle.threshold_record.specs.Read.{bytesTested, thresholdTested, thresholdRead, thresholdRecord}
 use Rattle.threshold_record.specs.Rewritten.{entriesTested, recordTested, pageAgain}
 
 pub parts-read : (c p : List ℕ) → configurationFormed c ≡ true → headed c p 0x05 (slotsOf c) ≡ answer.Accepted → getD p 1 0 ≡ 0
-    → rowsTested c p onPage (slotsOf c) ≡ answer.Accepted → thresholdRead c p ≡ answer.Accepted
+    → (offence c p onPage (slotsOf c) ≡ slotPlace (slotsOf c)) × (limitsTested c p onPage (slotsOf c) ≡ answer.Accepted) → thresholdRead c p ≡ page.Accepted
 unfolding thresholdRead thresholdTested bytesTested
-parts-read c p f h o r = rw (f, h, eq-eqb (getD p 1 0) 0 o, r)
+parts-read c p f h o r =
+    let n = slotsOf c in
+    let k = firstBelow (offends c p) (slotPlace n) in
+    let e : k ≡ slotPlace n = sym (found c p n) ∙ pick-yes _ _ _ (eq-eqb (getD p 1 0) 0 o) ∙ r .0 in
+    rw (f, h, eq-eqb k (slotPlace n) e, r .1)
 
 -- what an accepted page says
-module _ (c p : List ℕ) (a : thresholdRead c p ≡ answer.Accepted) where
+module _ (c p : List ℕ) (a : thresholdRead c p ≡ page.Accepted) where
   pub read-parts : (configurationFormed c ≡ true) × (headed c p 0x05 (slotsOf c) ≡ answer.Accepted) × (getD p 1 0 ≡ 0)
-      × (rowsTested c p onPage (slotsOf c) ≡ answer.Accepted)
+      × (offence c p onPage (slotsOf c) ≡ slotPlace (slotsOf c)) × (limitsTested c p onPage (slotsOf c) ≡ answer.Accepted)
   unfolding thresholdRead thresholdTested bytesTested
   read-parts =
       let n = slotsOf c in
       let h1 = configuration-passed c (thresholdTested c p n) a in
-      let h2 = held-both (headed c p 0x05 n) (bytesTested c p n) (h1 .1) in
-      let h3 = held-both (byteTested p) (rowsTested c p onPage n) (h2 .1) in
-      let o = eqb-true (getD p 1 0) 0 (held (eqb (getD p 1 0) 0) NotAllowed answer.Accepted (h3 .0) .0) in
-      (h1 .0, h2 .0, o, h3 .1)
+      let h2 = held-page (headed c p 0x05 n) (bytesTested c p n) (h1 .1) in
+      let h3 = held-offence (firstBelow (offends c p) (slotPlace n)) (slotPlace n) (limitsTested c p onPage n) (h2 .1) in
+      let o = byte-zero p (offence c p onPage n) (slotPlace n) (λ e. omega (arith, e)) (found c p n ∙ h3 .0) in
+      (h1 .0, h2 .0, o .0, o .1, h3 .1)
 
   pub read-front : HasFront c
   read-front = configuration-there c (read-parts .0)

@@ -15,6 +15,7 @@ use Rattle.element.specs.declared.types.Kind.{Kind}
 use Rattle.element.specs.Types.{had, ordered}
 use Rattle.element.proofs.TypeThresholds.{zeros-had, zeros-ordered}
 use Rattle.refusals.specs.declared.Answer.the-variants.{Accepted}
+use Rattle.refusals.specs.declared.PageAnswer.the-variants as page
 use Rattle.record_head.specs.Head.{recordHead}
 use Rattle.shelf.specs.Limits.{mostTypes, mostElements}
 use Rattle.shelf.specs.Elements.{thresholdsAt}
@@ -109,7 +110,7 @@ module _ (s : List ℕ) (w : wellFormed s ≡ true) where
         )
 
   -- it is accepted
-  pub told-read : thresholdRead (front s) (thresholdPage s) ≡ Accepted
+  pub told-read : thresholdRead (front s) (thresholdPage s) ≡ page.Accepted
   told-read =
       parts-read (front s) (thresholdPage s) (configuration-of s w) (rw (slots-same s) head-told) own
       (rw (slots-same s) (fine-rows (front s) (thresholdPage s) onPage (slotsOf s) fine))

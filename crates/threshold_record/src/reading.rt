@@ -3,12 +3,13 @@ use page::header;
 use page::slots;
 use page::testing;
 use refusals::Answer;
+use refusals::PageAnswer;
 use refusals::Tested;
 use shelf::limits;
 use threshold_page_in::writing;
 ghost use mathlib.Core.Path.{_≡_};
 ghost use Prim.Native.Nat.{_≤_};
-ghost use Rattle.refusals.specs.declared.Answer.the-variants.{Accepted};
+ghost use Rattle.refusals.specs.declared.PageAnswer.the-variants.{Accepted};
 ghost use Rattle.refusals.specs.Outcomes.{placed, HandsBack};
 ghost use Rattle.shelf_formed.specs.Formed.{HasFront};
 ghost use Rattle.page.specs.Slots.{slotsOf};
@@ -19,36 +20,36 @@ ghost use Rattle.threshold_record.specs.Read.{bytesTested, thresholdTest
 pub const LENGTH: usize = 4 + 4 * limits::MOST_SLOTS as usize;
 
 // The page's own tests.
-fn test_bytes(configuration: &[u8], page: &[u8], n: u16) -> Answer
+fn test_bytes(configuration: &[u8], page: &[u8], n: u16) -> PageAnswer
     requires { ⌜ HasRows (now configuration) (now page) onPage n ⌝ }
     ensures { λ r. ⌜ r ≡ bytesTested (now (configuration .entry)) (now (page .entry)) n ⌝ }
 {
     let byte = threshold_rows::test_byte(page);
-    let Answer::Accepted = byte else {
+    let PageAnswer::Accepted = byte else {
         return byte;
     };
-    threshold_rows::test(configuration, page, threshold_rows::ON_PAGE, n)
+    threshold_rows::test_page(configuration, page, n)
 }
 
 // A page of n slots, its header and then its bytes.
-fn test_page(configuration: &[u8], page: &[u8], n: u16) -> Answer
+fn test_page(configuration: &[u8], page: &[u8], n: u16) -> PageAnswer
     requires { ⌜ HasFront (now configuration) ⌝ }
     requires { ⌜ n ≤ slotsOf (now configuration) ⌝ }
     ensures { λ r. ⌜ r ≡ thresholdTested (now (configuration .entry)) (now (page .entry)) n ⌝ }
 {
     let head = header::test(configuration, page, writing::CODE, n);
     let Answer::Accepted = head else {
-        return head;
+        return PageAnswer::of(head);
     };
     test_bytes(configuration, page, n)
 }
 
-pub fn test(configuration: &[u8], page: &[u8]) -> Answer
+pub fn test(configuration: &[u8], page: &[u8]) -> PageAnswer
     ensures { λ r. ⌜ r ≡ thresholdRead (now (configuration .entry)) (now (page .entry)) ⌝ }
 {
     let configured = testing::configuration_slots(configuration);
     let Tested::Slots(n) = configured else {
-        return configured.answer();
+        return PageAnswer::of(configured.answer());
     };
     test_page(configuration, page, n)
 }
@@ -69,11 +70,11 @@ fn hand_over(configuration: &[u8], page: &[u8], fields: &mut [u8; LENGTH])
     );
 }
 
-pub fn read(configuration: &[u8], page: &[u8], fields: &mut [u8; LENGTH]) -> Answer
+pub fn read(configuration: &[u8], page: &[u8], fields: &mut [u8; LENGTH]) -> PageAnswer
     ensures { λ r. ⌜ HandsBack (thresholdRead (now (configuration .entry)) (now (page .entry))) (thresholdRecord (now (configuration .entry)) (now (page .entry))) (now (fields .entry)) r (now (fields .exit)) ⌝ }
 {
     let tested = test(configuration, page);
-    let Answer::Accepted = tested else {
+    let PageAnswer::Accepted = tested else {
         return tested;
     };
     hand_over(configuration, page, fields);

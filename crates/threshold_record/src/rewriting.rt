@@ -25,7 +25,7 @@ fn test_entries(configuration: &[u8], fields: &[u8; reading::LENGTH], n: u16) ->
     let Answer::Accepted = counted else {
         return counted;
     };
-    threshold_rows::test(configuration, fields, threshold_rows::IN_RECORD, n)
+    threshold_rows::test_record(configuration, fields, n)
 }
 
 pub fn test(configuration: &[u8], fields: &[u8; reading::LENGTH]) -> Answer

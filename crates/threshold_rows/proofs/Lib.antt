@@ -1,2 +1,4 @@
 pub mod Loops
 pub mod RowTests
+pub mod ByteTests
+pub mod FirstOffence

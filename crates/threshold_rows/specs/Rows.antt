@@ -1,5 +1,5 @@
 -- Rows of four threshold bytes in a block b, from the place k on: the slots of a page, or the entries of a record. Assumes nothing.
-use mathlib.Core.Bool.{Bool, not}
+use mathlib.Core.Bool.{Bool, true, not}
 use mathlib.Core.List.{List}
 use Prim.Native.Nat.{ℕ, _+_, _*_, _≤_}
 use lib.Dec.{eqb}
@@ -10,9 +10,12 @@ use Rattle.element.specs.Types.{had, ordered}
 use Rattle.refusals.specs.declared.Refusal.the-variants.{NotAllowed, NoSuchThreshold, ThresholdOrder}
 use Rattle.refusals.specs.declared.Answer.{Answer}
 use Rattle.refusals.specs.declared.Answer.the-variants.{Accepted}
-use Rattle.refusals.specs.Outcomes.{unless, next}
+use Rattle.refusals.specs.declared.PageAnswer.{PageAnswer}
+use Rattle.refusals.specs.declared.PageAnswer.the-variants as page
+use Rattle.refusals.specs.Outcomes.{unless, notAllowedAt, offenceTested, next}
 use Rattle.shelf_formed.specs.Formed.{HasFront}
 use Rattle.page.specs.Slots.{slotsOf, slotAt}
+use Rattle.page.specs.Offends.{offendsOn}
 use Rattle.threshold_rows.specs.declared.Seen.{Seen}
 use Rattle.threshold_rows.specs.declared.Scanned.{Scanned}
 use Rattle.threshold_rows.specs.declared.Scanned.the-variants.{Rows, Offending}
@@ -61,9 +64,24 @@ rowOrdered c b k i = ordered (slotAt c i .kind) (rowAt b k i)
 unfoldable pub allOrdered : List ℕ → List ℕ → ℕ → ℕ → Bool
 allOrdered c b k n = allBelow (rowOrdered c b k) n
 
--- 6: byte 1 of a page of thresholds is not zero
-abbrev pub byteTested : List ℕ → Answer
-byteTested p = unless (eqb (getD p 1 0) 0) NotAllowed Accepted
+-- byte 1 of a page of thresholds is zero
+abbrev pub firstAllows : List ℕ → Bool
+firstAllows p = eqb (getD p 1 0) 0
+
+-- byte j of slot i is allowed where thresholds are told: overall elements are zero
+abbrev pub slotAllows : List ℕ → List ℕ → ℕ → ℕ → Bool
+slotAllows c p i j = pick (slotAt c i .overall) (eqb (getD (rowAt p onPage i) j 0) 0) true
+
+-- the byte at k is not; and of a page that sets thresholds, where byte 1 alone is tested
+unfoldable pub offends : List ℕ → List ℕ → ℕ → Bool
+offends c p k = offendsOn (firstAllows p) (slotAllows c p) k
+
+unfoldable pub byteOffends : List ℕ → ℕ → Bool
+byteOffends p k = offendsOn (firstAllows p) (λ i j. true) k
+
+-- 6: byte 1
+abbrev pub byteTested : List ℕ → PageAnswer
+byteTested p = pick (firstAllows p) page.Accepted (notAllowedAt 1)
 
 -- 6: a byte of an overall row
 abbrev pub overallTested : List ℕ → List ℕ → ℕ → ℕ → Answer
@@ -77,13 +95,29 @@ hadTested c b k n = unless (allHad c b k n) NoSuchThreshold Accepted
 abbrev pub orderTested : List ℕ → List ℕ → ℕ → ℕ → Answer
 orderTested c b k n = unless (allOrdered c b k n) ThresholdOrder Accepted
 
--- 6, 7, 8: each is tested of all rows before the next
+-- 7, 8: each is tested of all rows before the next
+abbrev pub limitsTested : List ℕ → List ℕ → ℕ → ℕ → Answer
+limitsTested c b k n = next (hadTested c b k n) (orderTested c b k n)
+
+-- 6, 7, 8: the rows of a record, which tells no offset
 unfoldable pub rowsTested : List ℕ → List ℕ → ℕ → ℕ → Answer
-rowsTested c b k n = next (overallTested c b k n) (next (hadTested c b k n) (orderTested c b k n))
+rowsTested c b k n = next (overallTested c b k n) (limitsTested c b k n)
+
+-- 6, 7, 8: the n slots of a page p
+unfoldable pub slotsTested : List ℕ → List ℕ → ℕ → PageAnswer
+slotsTested c p n = offenceTested (offence c p onPage n) (rowPlace onPage n) (limitsTested c p onPage n)
 
 -- what one pass sees of them
 abbrev pub seen : List ℕ → List ℕ → ℕ → ℕ → Seen
 seen c b k n = record { had = allHad c b k n; ordered = allOrdered c b k n }
 
 unfoldable pub scanned : List ℕ → List ℕ → ℕ → ℕ → Scanned
-scanned c b k n = pick (eqb (offence c b k n) (rowPlace k n)) (Rows (seen c b k n)) Offending
+scanned c b k n = pick (eqb (offence c b k n) (rowPlace k n)) (Rows (seen c b k n)) (Offending (offence c b k n))
+
+-- and what that comes to
+abbrev pub seenTested : Seen → Answer
+seenTested s = next (unless (s .had) NoSuchThreshold Accepted) (unless (s .ordered) ThresholdOrder Accepted)
+
+abbrev pub scannedAnswer : Scanned → PageAnswer
+scannedAnswer (Rows s) = page.Accepted
+scannedAnswer (Offending k) = notAllowedAt k

@@ -3,6 +3,7 @@
 // The rows of a page and of a record are tested alike, so the tests take a block and the place where its rows start.
 use page::slots;
 use refusals::Answer;
+use refusals::PageAnswer;
 use refusals::Refusal;
 ghost use mathlib.Core.Path.{_≡_};
 ghost use Prim.Native.Nat.{_+_, _≤_};
@@ -11,7 +12,7 @@ ghost use Rattle.bits.specs.Choice.{pick};
 ghost use Rattle.refusals.specs.declared.Refusal.the-variants.{NoSuchThreshold, ThresholdOrder};
 ghost use Rattle.refusals.specs.declared.Answer.the-variants.{Accepted};
 ghost use Rattle.refusals.specs.Outcomes.{unless};
-ghost use Rattle.threshold_rows.specs.Rows.{rowPlace, rowAt, HasRows, firstSet, byteTested, hadTested, scanned, rowsTested};
+ghost use Rattle.threshold_rows.specs.Rows.{onPage, inRecord, rowPlace, rowAt, HasRows, firstSet, byteTested, hadTested, scanned, seenTested, scannedAnswer, rowsTested, slotsTested};
 
 // Where the rows start.
 pub const ON_PAGE: u16 = 8;
@@ -24,10 +25,10 @@ pub struct Seen {
     pub ordered: bool,
 }
 
-// What one pass over rows comes to: a refused byte of an overall row, or what is seen of all.
+// What one pass over rows comes to: where a refused byte of an overall row stands, or what is seen of all.
 pub enum Scanned {
     Rows(Seen),
-    Offending,
+    Offending(u32),
 }
 
 fn row_place(start: u16, i: u16) -> u32
@@ -68,14 +69,14 @@ fn row_offending(overall: bool, e: [u8; 4]) -> u8
 }
 
 // Byte 1 of a page of thresholds.
-pub fn test_byte(page: &[u8]) -> Answer
+pub fn test_byte(page: &[u8]) -> PageAnswer
     requires { ⌜ 4 ≤ length (now page) ⌝ }
     ensures { λ r. ⌜ r ≡ byteTested (now (page .entry)) ⌝ }
 {
     if bits::byte_at(page, 1) != 0 {
-        return Answer::Refused(Refusal::NotAllowed);
+        return PageAnswer::not_allowed(1);
     }
-    Answer::Accepted
+    PageAnswer::Accepted
 }
 
 pub fn test_had(configuration: &[u8], block: &[u8], start: u16, n: u16) -> Answer
@@ -114,6 +115,28 @@ impl Seen {
         }
         Answer::Accepted
     }
+
+    fn test(self) -> Answer
+        ensures { λ r. ⌜ r ≡ seenTested self ⌝ }
+    {
+        let had = self.test_had();
+        let Answer::Accepted = had else {
+            return had;
+        };
+        self.test_order()
+    }
+}
+
+impl Scanned {
+    // Of a page, which is refused where it offends.
+    fn answer(self) -> PageAnswer
+        ensures { λ r. ⌜ r ≡ scannedAnswer self ⌝ }
+    {
+        let Scanned::Offending(k) = self else {
+            return PageAnswer::Accepted;
+        };
+        PageAnswer::not_allowed(k)
+    }
 }
 
 fn scan(configuration: &[u8], block: &[u8], start: u16, n: u16) -> Scanned
@@ -129,8 +152,9 @@ fn scan(configuration: &[u8], block: &[u8], start: u16, n: u16) -> Scanned
         run = here;
         let kind = here.kind;
         let e = row_at(block, start, i);
-        if row_offending(here.overall, e) < 4 {
-            return Scanned::Offending;
+        let k = row_offending(here.overall, e);
+        if k < 4 {
+            return Scanned::Offending(row_place(start, i) + k as u32);
         }
         had = had & element_thresholds::are_had(kind, e);
         ordered = ordered & element_thresholds::are_ordered(kind, e);
@@ -140,17 +164,25 @@ fn scan(configuration: &[u8], block: &[u8], start: u16, n: u16) -> Scanned
 }
 
 // A refused byte of any row is told before a threshold that a type does not have, and that before the order.
-pub fn test(configuration: &[u8], block: &[u8], start: u16, n: u16) -> Answer
-    requires { ⌜ HasRows (now configuration) (now block) start n ⌝ }
-    ensures { λ r. ⌜ r ≡ rowsTested (now (configuration .entry)) (now (block .entry)) start n ⌝ }
+pub fn test_page(configuration: &[u8], page: &[u8], n: u16) -> PageAnswer
+    requires { ⌜ HasRows (now configuration) (now page) onPage n ⌝ }
+    ensures { λ r. ⌜ r ≡ slotsTested (now (configuration .entry)) (now (page .entry)) n ⌝ }
 {
-    let scanned = scan(configuration, block, start, n);
+    let scanned = scan(configuration, page, ON_PAGE, n);
+    let Scanned::Rows(seen) = scanned else {
+        return scanned.answer();
+    };
+    PageAnswer::of(seen.test())
+}
+
+// The same of a record handed in, where no offset is told.
+pub fn test_record(configuration: &[u8], fields: &[u8], n: u16) -> Answer
+    requires { ⌜ HasRows (now configuration) (now fields) inRecord n ⌝ }
+    ensures { λ r. ⌜ r ≡ rowsTested (now (configuration .entry)) (now (fields .entry)) inRecord n ⌝ }
+{
+    let scanned = scan(configuration, fields, IN_RECORD, n);
     let Scanned::Rows(seen) = scanned else {
         return Answer::Refused(Refusal::NotAllowed);
     };
-    let had = seen.test_had();
-    let Answer::Accepted = had else {
-        return had;
-    };
-    seen.test_order()
+    seen.test()
 }

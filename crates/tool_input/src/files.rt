@@ -1,8 +1,8 @@
 // The file that an argument names, read into a lent buffer.
 //
-// A buffer has one byte more than the longest shelf, page that acts or wanted list. So a longer file fills it, and is
-// refused by that length as it would be by its own: as a shelf, 1; as a page, 4, and as a wanted list, 9, unless the
-// shelf or a page's byte 0 is refused before. What follows in the file changes no answer.
+// A buffer has one byte more than the longest shelf or wanted list, or than the most that a page's length field can tell.
+// So a longer file fills it, and is refused by that length as it would be by its own: as a shelf, 1; as a page, 4, and
+// as a wanted list, 9, unless the shelf or a page's byte 0 is refused before. What follows in the file changes no answer.
 use shelf::limits;
 ghost use Rattle.io.specs.Counts.{Counts};
 
@@ -10,7 +10,7 @@ pub const BLOCK_ROOM: usize = limits::LONGEST_BLOCK + 1;
 
 pub const WANTED_ROOM: usize = limits::LONGEST_WANTED_LIST + 1;
 
-pub const PAGE_ROOM: usize = limits::LONGEST_SLOT_PAGE + 1;
+pub const PAGE_ROOM: usize = 0xffff + 4 + 1;
 
 // Whether the file could be read, and how many bytes of it stand at the start of the buffer.
 pub struct Loaded {

@@ -13,9 +13,7 @@ fn tell_meaning(r: Refusal) {
         Refusal::ShelfNotWellFormed => crate::text(b"the shelf record is not well formed"),
         Refusal::PageTooShort => crate::text(b"the page has fewer than 4 bytes"),
         Refusal::PageCode => crate::text(b"byte 0 is not the page code wanted"),
-        Refusal::PageLength => crate::text(
-            b"the length is not what the page says or the types need",
-        ),
+        Refusal::PageLength => crate::text(b"the bytes given are not the page length + 4"),
         Refusal::Generation => crate::text(b"the generation code differs from the shelf's"),
         Refusal::NotAllowed => crate::text(b"a reserved bit is set, or a value is not allowed"),
         Refusal::NoSuchThreshold => crate::text(b"a threshold is set that the type does not have"),
@@ -23,5 +21,6 @@ fn tell_meaning(r: Refusal) {
         Refusal::WantedList => crate::text(b"the list does not fit the shelf's elements"),
         Refusal::Unreachable => crate::text(b"no valid control page reaches the wanted settings"),
         Refusal::OutputTooShort => crate::text(b"the output buffer is shorter than the page"),
+        Refusal::NeededLength => crate::text(b"the types need another length than the page has"),
     }
 }

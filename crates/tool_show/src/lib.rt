@@ -1,4 +1,6 @@
-// What a well-formed shelf holds, in words: its head, its types, and the elements of each. Of any other block nothing is said.
+// What a well-formed shelf holds, in words: its head, its types, and the elements of each; and what a page for it has at a place. Of any
+// other block nothing is said.
+pub mod place;
 mod words;
 
 use element::types::Kind;
@@ -67,7 +69,9 @@ fn show_type(shelf: &[u8], t: u16, elements: u16)
     let code = types::code_of(shelf, t);
     let length = types::text_length(shelf, t) as u16;
     tool_print::labelled(b"type ", t as u64);
+    tool_print::text(b": ");
     words::say_kind(Kind::of(code));
+    tool_print::text(b" (");
     tool_print::hex(code);
     tool_print::quoted_at(b"h) \"", shelf, limits::text_place(t), length);
     tool_print::count(types::elements_of(shelf, t) as u64, b" element");

@@ -8,10 +8,10 @@ ghost use Rattle.shelf.specs.Limits.{HasElement};
 // The name of a type.
 pub fn say_kind(kind: Kind) {
     match kind {
-        Kind::Cooling => tool_print::text(b": Cooling ("),
-        Kind::Temperature => tool_print::text(b": Temperature Sensor ("),
-        Kind::Voltage => tool_print::text(b": Voltage Sensor ("),
-        Kind::Current => tool_print::text(b": Current Sensor ("),
+        Kind::Cooling => tool_print::text(b"Cooling"),
+        Kind::Temperature => tool_print::text(b"Temperature Sensor"),
+        Kind::Voltage => tool_print::text(b"Voltage Sensor"),
+        Kind::Current => tool_print::text(b"Current Sensor"),
     }
 }
 

@@ -37,14 +37,23 @@ row-at-requires c κs = search needs
 row-offending-requires : tie.Need-row-offending-requires Inv-loop μ-loop
 row-offending-requires c κs = search needs
 
+row-place-requires : tie.Need-row-place-requires Inv-loop μ-loop
+row-place-requires c κs = search needs
+
+cast-t15 : tie.Need-cast-t15 Inv-loop μ-loop
+cast-t15 c = omega arith
+
+add-t16 : tie.Need-add-t16 Inv-loop μ-loop
+add-t16 c = omega (arith, c .row-place .ensures)
+
 returns : tie.Need-returns Inv-loop μ-loop
 returns c =
-    let s = c .before .before .before .before .before .before .before .before .before .args in
-    let l = c .before .before .before .before .before .loop in
-    let h = row-offends (now (s .configuration)) (now (s .block)) (s .start) (l .i) (c .before .before .before .run-to .ensures)
-    (c .before .before .row-at .ensures) (c .before .row-offending .ensures) in
-    refused-row (now (s .configuration)) (now (s .block)) (s .start) (s .n) (l .i) (c .before .before .before .before .loop-test .taken) (l .inv .2) h
-    (c .if1 .taken)
+    let s = c .before .before .before .before .before .before .before .before .before .before .args in
+    let l = c .before .before .before .before .before .before .loop in
+    let h = row-offends (now (s .configuration)) (now (s .block)) (s .start) (l .i) (c .before .before .before .before .run-to .ensures)
+    (c .before .before .before .row-at .ensures) (c .before .before .row-offending .ensures) in
+    refused-row (now (s .configuration)) (now (s .block)) (s .start) (s .n) (l .i) (c .before .before .before .before .before .loop-test .taken)
+    (l .inv .2) h (c .before .if1 .taken) (c .row-place .ensures)
 
 are-had-requires : tie.Need-are-had-requires Inv-loop μ-loop
 are-had-requires c κs = search needs
@@ -92,6 +101,9 @@ scan-spec =
     run-to-requires
     row-at-requires
     row-offending-requires
+    row-place-requires
+    cast-t15
+    add-t16
     returns
     are-had-requires
     are-ordered-requires

@@ -15,7 +15,7 @@ use Rattle.bits.proofs.Logic.{fails, below-next}
 use Rattle.bits.proofs.Halves.{mask}
 use Rattle.page.specs.Slots.{slotCarried}
 use Rattle.page.proofs.SlotWalk.{walk-on}
-use Rattle.control_page.specs.Tests.{slotOffending}
+use Rattle.control_page.proofs.FirstOffence.{slotOffending}
 use Rattle.control_page.proofs.Tests.{slot-offends, first-byte-refused, slot-refused, none-refused}
 use Rattle.control_page.proofs.testing.first_offence.Statement.{statement}
 use Rattle.control_page.proofs.testing.first_offence.Tie as tie

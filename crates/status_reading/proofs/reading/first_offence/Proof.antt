@@ -15,7 +15,7 @@ use Rattle.bits.proofs.Logic.{fails, below-next}
 use Rattle.bits.proofs.Halves.{mask}
 use Rattle.page.specs.Slots.{slotCarried}
 use Rattle.page.proofs.SlotWalk.{run-stands, slot-walked, walk-on}
-use Rattle.status_reading.specs.Read.{slotOffending}
+use Rattle.status_reading.proofs.FirstOffence.{slotOffending}
 use Rattle.status_reading.proofs.Loops.{slot-offends, first-byte-refused, slot-refused, none-refused}
 use Rattle.status_reading.proofs.reading.first_offence.Statement.{statement}
 use Rattle.status_reading.proofs.reading.first_offence.Tie as tie

@@ -1,7 +1,7 @@
 -- `status_reading::reading::test` meets its contract. Assumes nothing.
 use native.Mathlib.Omega.{arith}
 use denote.Ref.{now}
-use Rattle.refusals.proofs.Stages.{count-refused, count-passed}
+use Rattle.refusals.proofs.Stages.{page-count-refused, page-count-passed}
 use Rattle.page.specs.Header.{configurationTested}
 use Rattle.page.specs.Slots.{slotsOf}
 use Rattle.page.proofs.SlotsCounted.{configuration-counted}
@@ -13,11 +13,11 @@ use Rattle.status_reading.proofs.reading.test.Tie as tie
 returns : tie.Need-returns
 unfolding statusRead
 returns c =
-    let s = c .before .before .before .before .before .before .args in
+    let s = c .before .before .before .before .before .before .before .args in
     let k = now (s .configuration) in
     let p = now (s .page) in
-    count-refused (configurationTested k) (slotsOf k) (c .before .before .before .configuration-slots .ensures) (statusTested k p)
-    (c .before .enum-told .given .1) (c .answer .ensures)
+    page-count-refused (configurationTested k) (slotsOf k) (c .before .before .before .before .configuration-slots .ensures) (statusTested k p)
+    (c .before .before .enum-told .given .1) (c .before .answer .ensures) (c .of .ensures)
 
 test-page-requires : tie.Need-test-page-requires
 test-page-requires c κs =
@@ -31,14 +31,14 @@ returns-2 c =
     let s = c .before .before .before .before .before .before .before .args in
     let k = now (s .configuration) in
     let p = now (s .page) in
-    count-passed (configurationTested k) (slotsOf k) (c .before .before .before .before .configuration-slots .ensures) (statusTested k p)
+    page-count-passed (configurationTested k) (slotsOf k) (c .before .before .before .before .configuration-slots .ensures) (statusTested k p)
     (c .before .before .configured .given .1) (c .test-page .ensures)
 
 pub test-spec : {M : Type 1} → statement M
 test-spec =
     tie.close
     (tie.spec
-    (λ c κs. search needs) (λ c. search needs) (λ c. search needs) (λ c κs. search needs)
+    (λ c κs. search needs) (λ c. search needs) (λ c. search needs) (λ c κs. search needs) (λ c κs. search needs)
     returns
     test-page-requires
     returns-2)

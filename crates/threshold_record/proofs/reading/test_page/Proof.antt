@@ -2,7 +2,7 @@
 use mathlib.Core.Path.{sym, _∙_}
 use native.Mathlib.Omega.{arith}
 use denote.Ref.{now}
-use Rattle.refusals.proofs.Stages.{stopped, gone-on}
+use Rattle.refusals.proofs.Stages.{page-stopped, page-gone-on}
 use Rattle.page.specs.Header.{headed}
 use Rattle.page.proofs.HeaderBothWays.{length-tested}
 use Rattle.threshold_record.specs.Read.{bytesTested, thresholdTested}
@@ -13,10 +13,11 @@ use Rattle.threshold_record.proofs.reading.test_page.Tie as tie
 returns : tie.Need-returns
 unfolding thresholdTested
 returns c =
-    let s = c .before .before .before .before .before .args in
+    let s = c .before .before .before .before .before .before .args in
     let k = now (s .configuration) in
     let p = now (s .page) in
-    stopped (headed k p 0x05 (s .n)) (bytesTested k p (s .n)) (c .before .before .test .ensures) (c .enum-told2 .given .1)
+    page-stopped (headed k p 0x05 (s .n)) (bytesTested k p (s .n)) (c .before .before .before .test .ensures) (c .before .enum-told2 .given .1)
+    (c .of .ensures)
 
 test-bytes-requires : tie.Need-test-bytes-requires
 test-bytes-requires c κs =
@@ -30,14 +31,14 @@ returns-2 c =
     let s = c .before .before .before .before .before .before .args in
     let k = now (s .configuration) in
     let p = now (s .page) in
-    gone-on (headed k p 0x05 (s .n)) (bytesTested k p (s .n)) (c .before .before .before .test .ensures) (c .before .enum-told .given .1)
+    page-gone-on (headed k p 0x05 (s .n)) (bytesTested k p (s .n)) (c .before .before .before .test .ensures) (c .before .enum-told .given .1)
     (c .test-bytes .ensures)
 
 pub test-page-spec : {M : Type 1} → statement M
 test-page-spec =
     tie.close
     (tie.spec
-    (λ c κs. search needs) (λ c. search needs) (λ c. search needs)
+    (λ c κs. search needs) (λ c. search needs) (λ c. search needs) (λ c κs. search needs)
     returns
     test-bytes-requires
     returns-2)

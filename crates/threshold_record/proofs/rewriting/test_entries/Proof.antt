@@ -18,8 +18,8 @@ returns c =
     stopped (countTested r (s .n)) (rowsTested (now (s .configuration)) r inRecord (s .n)) (c .before .before .test-count .ensures)
     (c .enum-told2 .given .1)
 
-test-requires : tie.Need-test-requires
-test-requires c κs =
+test-record-requires : tie.Need-test-record-requires
+test-record-requires c κs =
     let p = c .before .before .before .before .before .before .pre in
     let b = slots-bound (now (c .before .before .before .before .before .before .args .configuration)) (p .0 .0) in
     (p .0, omega (arith, p .1), omega (arith, p .1, b))
@@ -30,8 +30,8 @@ returns-2 c =
     let s = c .before .before .before .before .before .before .before .args in
     let r = now (s .fields) in
     gone-on (countTested r (s .n)) (rowsTested (now (s .configuration)) r inRecord (s .n)) (c .before .before .before .before .test-count .ensures)
-    (c .before .before .enum-told .given .1) (c .test .ensures)
+    (c .before .before .enum-told .given .1) (c .test-record .ensures)
 
 pub test-entries-spec : {M : Type 1} → statement M
 test-entries-spec =
-    tie.close (tie.spec (λ c κs. search needs) (λ c. search needs) (λ c. search needs) returns test-requires returns-2)
+    tie.close (tie.spec (λ c κs. search needs) (λ c. search needs) (λ c. search needs) returns test-record-requires returns-2)

@@ -2,20 +2,21 @@
  *
  * A request is one byte that names the call, then its buffers, each a length of four bytes (the highest
  * first) and as many bytes. The answer is the call's own byte, for a call that writes a page the four
- * bytes of `written`, for the builder those of `selects` too, and then the buffer that it may change.
+ * bytes of `written`, for the builder those of `selects` too, for a call that reads or applies a page
+ * those of `offset`, and then the buffer that it may change.
  *
  *   c shelf                        ses_check
  *   A shelf out                    ses_write_configuration, written, and out
  *   B shelf out                    ses_write_status, written, and out
  *   C shelf out                    ses_write_thresholds, written, and out
- *   D page record                  ses_read_configuration, and the record
- *   E configuration page record    ses_read_status, and the record
- *   F configuration page record    ses_read_thresholds, and the record
+ *   D page record                  ses_read_configuration, offset, and the record
+ *   E configuration page record    ses_read_status, offset, and the record
+ *   F configuration page record    ses_read_thresholds, offset, and the record
  *   G configuration out            ses_rewrite_configuration, written, and out
  *   H configuration record out     ses_rewrite_status, written, and out
  *   I configuration record out     ses_rewrite_thresholds, written, and out
- *   J shelf page                   ses_apply_control, and the shelf
- *   K shelf page                   ses_apply_thresholds, and the shelf
+ *   J shelf page                   ses_apply_control, offset, and the shelf
+ *   K shelf page                   ses_apply_thresholds, offset, and the shelf
  *   L shelf wanted out             ses_build_control, written, selects, and out
  *   .                              all answers are sent
  */
@@ -37,7 +38,7 @@ struct buffer {
 };
 
 static struct buffer first, second, lent;
-static uint32_t written, selects;
+static uint32_t written, selects, offset;
 
 static void fail(const char *why)
 {
@@ -133,8 +134,10 @@ static void answer_read_configuration(void)
 {
     take_input(&first);
     take_record(&lent, SES_CONFIGURATION_LENGTH);
-    putchar(ses_read_configuration(first.bytes, first.length, lent.bytes));
+    offset = NOT_WRITTEN;
+    putchar(ses_read_configuration(first.bytes, first.length, lent.bytes, &offset));
     check_input(&first);
+    send_number(offset);
     send_lent();
 }
 
@@ -143,10 +146,12 @@ static void answer_read_status(void)
     take_input(&first);
     take_input(&second);
     take_record(&lent, sizeof(struct ses_status));
+    offset = NOT_WRITTEN;
     putchar(ses_read_status(first.bytes, first.length, second.bytes, second.length,
-                            (struct ses_status *)lent.bytes));
+                            (struct ses_status *)lent.bytes, &offset));
     check_input(&first);
     check_input(&second);
+    send_number(offset);
     send_lent();
 }
 
@@ -155,10 +160,12 @@ static void answer_read_thresholds(void)
     take_input(&first);
     take_input(&second);
     take_record(&lent, sizeof(struct ses_thresholds));
+    offset = NOT_WRITTEN;
     putchar(ses_read_thresholds(first.bytes, first.length, second.bytes, second.length,
-                                (struct ses_thresholds *)lent.bytes));
+                                (struct ses_thresholds *)lent.bytes, &offset));
     check_input(&first);
     check_input(&second);
+    send_number(offset);
     send_lent();
 }
 
@@ -190,12 +197,14 @@ static void answer_rewrite_thresholds(void)
     send_lent();
 }
 
-static void answer_apply(uint8_t (*call)(uint8_t *, size_t, const uint8_t *, size_t))
+static void answer_apply(uint8_t (*call)(uint8_t *, size_t, const uint8_t *, size_t, uint32_t *))
 {
     take(&lent);
     take_input(&first);
-    putchar(call(lent.bytes, lent.length, first.bytes, first.length));
+    offset = NOT_WRITTEN;
+    putchar(call(lent.bytes, lent.length, first.bytes, first.length, &offset));
     check_input(&first);
+    send_number(offset);
     send_lent();
 }
 

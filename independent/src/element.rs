@@ -4,10 +4,6 @@ use crate::bits::{bit, flag};
 use crate::record::{Element, FanSettings, Kind, Settings, Thresholds};
 use std::array::from_fn;
 
-/// A selected control element has a reserved bit set: refusal 6.
-#[derive(Clone, Copy, Debug, PartialEq, Eq)]
-pub struct ReservedBit;
-
 /// What a selected control element asks for. ON and a speed are asked of fans only.
 #[derive(Clone, Copy)]
 pub struct Request {
@@ -21,16 +17,16 @@ pub struct Request {
 }
 
 impl Request {
-    /// None for an unselected element. A reserved bit is one that the request, formed again, lacks.
-    pub fn decode(kind: Kind, element: [u8; 4]) -> Result<Option<Request>, ReservedBit> {
-        if !bit(element[0], 7) {
-            return Ok(None);
-        }
-        let request = Request::parse(kind, element);
-        if request.form(kind) == element {
-            Ok(Some(request))
-        } else {
-            Err(ReservedBit)
+    /// None for an unselected element.
+    pub fn decode(kind: Kind, element: [u8; 4]) -> Option<Request> {
+        bit(element[0], 7).then(|| Request::parse(kind, element))
+    }
+
+    /// A reserved bit is set in this byte of a selected element: one that the request, formed again, lacks.
+    pub fn offends(kind: Kind, element: [u8; 4], at: usize) -> bool {
+        match Request::decode(kind, element) {
+            Some(request) => request.form(kind)[at] != element[at],
+            None => false,
         }
     }
 
@@ -113,7 +109,7 @@ impl Request {
 fn allowed_bytes(kind: Kind, at: usize) -> Vec<u8> {
     let allowed = |byte: &u8| {
         let element = with([0x80, 0x00, 0x00, 0x00], at, *byte);
-        matches!(Request::decode(kind, element), Ok(Some(_)))
+        Request::decode(kind, element).is_some() && !Request::offends(kind, element, at)
     };
     (0..=0xFF).filter(allowed).collect()
 }

@@ -63,6 +63,9 @@ pub const fn element_page_bytes(elements: usize) -> usize {
     8 + 4 * elements
 }
 
+/// Where a configuration page has the number of types.
+pub const PAGE_TYPES_AT: usize = 10;
+
 pub const fn configuration_page_bytes(types: usize, letters: usize) -> usize {
     48 + 4 * types + letters
 }

@@ -1,6 +1,7 @@
 //! The pages 01h, 02h and 05h: what the readers of each hand back, what those that act do to a shelf, and
 //! which is best for a wish.
 
+mod before;
 mod builder;
 pub mod calls;
 pub mod cases;
@@ -12,23 +13,62 @@ mod status;
 mod threshold_out;
 mod thresholds;
 
+use crate::limits::element_page_bytes;
 use crate::record::Configuration;
-use std::iter::once;
+use std::iter::{once, zip};
 
-/// By the numbers of the rules.
 #[derive(Clone, Copy, Debug, PartialEq, Eq)]
 pub enum Refusal {
-    NotWellFormed = 1,
-    PageTooShort = 2,
-    PageCode = 3,
-    PageLength = 4,
-    Generation = 5,
-    NotAllowed = 6,
-    NoSuchThreshold = 7,
-    ThresholdOrder = 8,
-    Entries = 9,
-    Unreachable = 10,
-    OutputTooShort = 11,
+    NotWellFormed,
+    PageTooShort,
+    PageCode,
+    PageLength,
+    NeededLength,
+    Generation,
+    /// On a page, at the first byte that offends.
+    NotAllowedAt(usize),
+    /// In a record handed in.
+    NotAllowed,
+    NoSuchThreshold,
+    ThresholdOrder,
+    Entries,
+    Unreachable,
+    OutputTooShort,
+}
+
+impl Refusal {
+    pub fn number(self) -> u8 {
+        match self {
+            Refusal::NotWellFormed => 1,
+            Refusal::PageTooShort => 2,
+            Refusal::PageCode => 3,
+            Refusal::PageLength => 4,
+            Refusal::Generation => 5,
+            Refusal::NotAllowedAt(_) | Refusal::NotAllowed => 6,
+            Refusal::NoSuchThreshold => 7,
+            Refusal::ThresholdOrder => 8,
+            Refusal::Entries => 9,
+            Refusal::Unreachable => 10,
+            Refusal::OutputTooShort => 11,
+            Refusal::NeededLength => 12,
+        }
+    }
+
+    /// 0 if it tells none: byte 0 of a page is its code and never offends.
+    fn offset(self) -> usize {
+        match self {
+            Refusal::NotAllowedAt(offset) => offset,
+            _ => 0,
+        }
+    }
+}
+
+/// Refusal 6 for the first of a page's offending bytes, which come in page order.
+fn none_of(offences: impl IntoIterator<Item = usize>) -> Result<(), Refusal> {
+    match offences.into_iter().next() {
+        Some(offset) => Err(Refusal::NotAllowedAt(offset)),
+        None => Ok(()),
+    }
 }
 
 /// A page behind its first four bytes.
@@ -44,7 +84,7 @@ fn framed(code: u8, byte1: u8, rest: &[u8]) -> Vec<u8> {
     page
 }
 
-/// Refusals 2, 3, and 4 for the length field.
+/// Refusals 2, 3, 4.
 fn unframed(code: u8, page: &[u8]) -> Result<Body<'_>, Refusal> {
     match *page {
         [byte0, _, _, _, ..] if byte0 != code => Err(Refusal::PageCode),
@@ -72,14 +112,14 @@ impl ElementPage {
         framed(code, self.byte1, &rest)
     }
 
-    /// Refusals 2 to 5.
+    /// Refusals 2, 3, 4, 12, 5.
     fn read(code: u8, configuration: &Configuration, page: &[u8]) -> Result<ElementPage, Refusal> {
         let Body { byte1, rest } = unframed(code, page)?;
         let words: Result<Vec<[u8; 4]>, _> = rest.chunks(4).map(TryInto::try_into).collect();
-        let words = words.map_err(|_| Refusal::PageLength)?;
-        let (generation, elements) = words.split_first().ok_or(Refusal::PageLength)?;
+        let words = words.map_err(|_| Refusal::NeededLength)?;
+        let (generation, elements) = words.split_first().ok_or(Refusal::NeededLength)?;
         if elements.len() != configuration.places().len() {
-            return Err(Refusal::PageLength);
+            return Err(Refusal::NeededLength);
         }
         if *generation != configuration.generation.to_be_bytes() {
             return Err(Refusal::Generation);
@@ -87,6 +127,25 @@ impl ElementPage {
         Ok(ElementPage {
             byte1,
             elements: elements.to_vec(),
+        })
+    }
+
+    /// Page byte 1, if one of these bits is set in it.
+    fn byte1_offence(&self, reserved: u8) -> Option<usize> {
+        (self.byte1 & reserved != 0).then_some(1)
+    }
+
+    /// The offending bytes of the elements. Whether a byte of an element offends depends on what that element
+    /// is for.
+    fn element_offences<'a, T: Copy + 'a>(
+        &'a self,
+        elements_are_for: impl Iterator<Item = T> + 'a,
+        offends: fn(T, [u8; 4], usize) -> bool,
+    ) -> impl Iterator<Item = usize> + 'a {
+        let elements = zip(elements_are_for, &self.elements).enumerate();
+        elements.flat_map(move |(place, (is_for, element))| {
+            let bytes = (0..4).filter(move |at| offends(is_for, *element, *at));
+            bytes.map(move |at| element_page_bytes(place) + at)
         })
     }
 }

@@ -6,6 +6,7 @@ mod building;
 mod checks;
 mod elements;
 pub mod examples;
+mod offsets;
 mod pages;
 
 use checks::Checks;
@@ -15,6 +16,7 @@ pub fn run() -> bool {
     elements::check(&mut checks);
     pages::check(&mut checks);
     acting::check(&mut checks);
+    offsets::check(&mut checks);
     building::check(&mut checks);
     checks.tell()
 }

@@ -114,6 +114,19 @@ impl Place {
         common.iter().chain(own)
     }
 
+    /// This byte of an element has a bit set that the place does not name, or a code that is too high.
+    pub fn offends(self, element: [u8; 4], at: usize) -> bool {
+        let mut named = 0;
+        for field in self.fields().filter(|field| field.byte == at) {
+            let value = field.taken_from(element);
+            if value > field.most {
+                return true;
+            }
+            named += value << field.bit;
+        }
+        named != element[at]
+    }
+
     /// The largest value of each byte of an entry: 0 where the place shows nothing.
     pub fn largest(self) -> [u8; STATUS_ENTRY_BYTES] {
         in_front(self.fields().map(|field| field.most))
@@ -145,26 +158,22 @@ impl Shown {
         }
     }
 
-    /// None if the bytes have a bit set that the place does not name, or a code that is too high.
-    pub fn from_element(place: Place, element: [u8; 4]) -> Option<Shown> {
+    /// Of an element without an offending byte.
+    pub fn from_element(place: Place, element: [u8; 4]) -> Shown {
         let values = place.fields().map(|field| field.taken_from(element));
-        let shown = Shown::with_values(place, values)?;
-        (shown.element() == element).then_some(shown)
+        Shown {
+            place,
+            values: values.collect(),
+        }
     }
 
     /// None if a field is out of range, or set where the place shows none.
     pub fn from_entry(place: Place, entry: [u8; STATUS_ENTRY_BYTES]) -> Option<Shown> {
-        let values = zip(place.fields(), entry).map(|(_, byte)| byte);
-        let shown = Shown::with_values(place, values)?;
-        (shown.entry() == entry).then_some(shown)
-    }
-
-    /// None if one is too large for its field.
-    fn with_values(place: Place, values: impl Iterator<Item = u8>) -> Option<Shown> {
-        let values: Vec<u8> = values.collect();
+        let values: Vec<u8> = zip(place.fields(), entry).map(|(_, byte)| byte).collect();
         let mut fields = zip(place.fields(), &values);
         let in_range = fields.all(|(field, value)| *value <= field.most);
-        in_range.then_some(Shown { place, values })
+        let shown = in_range.then_some(Shown { place, values })?;
+        (shown.entry() == entry).then_some(shown)
     }
 
     pub fn code(&self) -> u8 {

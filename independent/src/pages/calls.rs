@@ -4,6 +4,7 @@ use super::status::Status;
 use super::thresholds::ThresholdList;
 use super::{builder, configuration, control, threshold_out, Refusal};
 use crate::record::{self, Configuration, Shelf};
+use std::iter::zip;
 
 /// The number of a call's answer, and all bytes of it as the door sends them.
 #[derive(Clone, Debug, PartialEq, Eq)]
@@ -23,10 +24,24 @@ impl Answer {
         self.wide_number(5)
     }
 
-    fn wide_number(&self, at: usize) -> usize {
-        let bytes = self.bytes[at..at + 4].try_into().expect("four bytes");
-        u32::from_be_bytes(bytes) as usize
+    /// Of the first offending byte, for a call that hands back a record or shelf.
+    pub fn offset(&self) -> usize {
+        self.wide_number(1)
     }
+
+    /// The record or shelf, for a call that hands one back.
+    pub fn record(&self) -> &[u8] {
+        &self.bytes[5..]
+    }
+
+    fn wide_number(&self, at: usize) -> usize {
+        wide_number(&self.bytes[at..])
+    }
+}
+
+fn wide_number(bytes: &[u8]) -> usize {
+    let bytes = bytes[..4].try_into().expect("four bytes");
+    u32::from_be_bytes(bytes) as usize
 }
 
 pub struct Call {
@@ -34,6 +49,8 @@ pub struct Call {
     pub letter: u8,
     /// Every number that the call can answer with.
     pub outcomes: &'static [u8],
+    /// What the four-byte numbers behind it tell.
+    tells: &'static [&'static str],
     rule: Rule,
 }
 
@@ -49,6 +66,7 @@ pub static WRITE_CONFIGURATION: Call = Call {
     name: "write_configuration",
     letter: b'A',
     outcomes: &[0, 1, 11],
+    tells: &["written"],
     rule: Rule::OfOne(write_configuration),
 };
 
@@ -56,6 +74,7 @@ pub static WRITE_STATUS: Call = Call {
     name: "write_status",
     letter: b'B',
     outcomes: &[0, 1, 11],
+    tells: &["written"],
     rule: Rule::OfOne(write_status),
 };
 
@@ -63,27 +82,31 @@ pub static WRITE_THRESHOLDS: Call = Call {
     name: "write_thresholds",
     letter: b'C',
     outcomes: &[0, 1, 11],
+    tells: &["written"],
     rule: Rule::OfOne(write_thresholds),
 };
 
 pub static READ_CONFIGURATION: Call = Call {
     name: "read_configuration",
     letter: b'D',
-    outcomes: &[0, 2, 3, 4, 6],
+    outcomes: &[0, 2, 3, 4, 6, 12],
+    tells: &["offset"],
     rule: Rule::OfOne(read_configuration),
 };
 
 pub static READ_STATUS: Call = Call {
     name: "read_status",
     letter: b'E',
-    outcomes: &[0, 1, 2, 3, 4, 5, 6],
+    outcomes: &[0, 1, 2, 3, 4, 5, 6, 12],
+    tells: &["offset"],
     rule: Rule::OfTwo(read_status),
 };
 
 pub static READ_THRESHOLDS: Call = Call {
     name: "read_thresholds",
     letter: b'F',
-    outcomes: &[0, 1, 2, 3, 4, 5, 6, 7, 8],
+    outcomes: &[0, 1, 2, 3, 4, 5, 6, 7, 8, 12],
+    tells: &["offset"],
     rule: Rule::OfTwo(read_thresholds),
 };
 
@@ -91,6 +114,7 @@ pub static REWRITE_CONFIGURATION: Call = Call {
     name: "rewrite_configuration",
     letter: b'G',
     outcomes: &[0, 1, 11],
+    tells: &["written"],
     rule: Rule::OfOne(rewrite_configuration),
 };
 
@@ -98,6 +122,7 @@ pub static REWRITE_STATUS: Call = Call {
     name: "rewrite_status",
     letter: b'H',
     outcomes: &[0, 1, 6, 9, 11],
+    tells: &["written"],
     rule: Rule::OfTwo(rewrite_status),
 };
 
@@ -105,20 +130,23 @@ pub static REWRITE_THRESHOLDS: Call = Call {
     name: "rewrite_thresholds",
     letter: b'I',
     outcomes: &[0, 1, 6, 7, 8, 9, 11],
+    tells: &["written"],
     rule: Rule::OfTwo(rewrite_thresholds),
 };
 
 pub static APPLY_CONTROL: Call = Call {
     name: "apply_control",
     letter: b'J',
-    outcomes: &[0, 1, 2, 3, 4, 5, 6],
+    outcomes: &[0, 1, 2, 3, 4, 5, 6, 12],
+    tells: &["offset"],
     rule: Rule::Acting(apply_control),
 };
 
 pub static APPLY_THRESHOLDS: Call = Call {
     name: "apply_thresholds",
     letter: b'K',
-    outcomes: &[0, 1, 2, 3, 4, 5, 6, 7, 8],
+    outcomes: &[0, 1, 2, 3, 4, 5, 6, 7, 8, 12],
+    tells: &["offset"],
     rule: Rule::Acting(apply_thresholds),
 };
 
@@ -126,6 +154,7 @@ pub static BUILD_CONTROL: Call = Call {
     name: "build_control",
     letter: b'L',
     outcomes: &[0, 1, 9, 10, 11],
+    tells: &["written", "selects"],
     rule: Rule::OfTwo(build_control),
 };
 
@@ -152,6 +181,15 @@ impl Call {
             (Rule::Acting(rule), [page]) => rule(lent, page),
             _ => panic!("{} takes another number of buffers", self.name),
         }
+    }
+
+    /// The numbers of an answer as the door sends it, each behind its name.
+    pub fn numbers(&self, answer: &[u8]) -> String {
+        let mut numbers = format!("answer {}", answer[0]);
+        for (name, bytes) in zip(self.tells, answer[1..].chunks(4)) {
+            numbers += &format!(", {name} {}", wide_number(bytes));
+        }
+        numbers
     }
 
     /// All buffers in the order in which the call takes them.
@@ -256,10 +294,14 @@ fn wrote(page: Result<Vec<u8>, Refusal>, out: &[u8]) -> Answer {
     told(number, &[page.len()], laid_over(page, out))
 }
 
-/// The number, and the record or shelf.
+/// The number, four bytes with the offset of the first offending byte, and the record or shelf.
 fn handed_back(record: Result<Vec<u8>, Refusal>, before: &[u8]) -> Answer {
+    let offset = match record {
+        Ok(_) => 0,
+        Err(refusal) => refusal.offset(),
+    };
     let (number, record) = outcome(record);
-    told(number, &[], laid_over(record, before))
+    told(number, &[offset], laid_over(record, before))
 }
 
 fn fitting(page: Vec<u8>, out: &[u8]) -> Result<Vec<u8>, Refusal> {
@@ -283,7 +325,7 @@ fn told(number: u8, wide_numbers: &[usize], buffer: Vec<u8>) -> Answer {
 fn outcome(made: Result<Vec<u8>, Refusal>) -> (u8, Vec<u8>) {
     match made {
         Ok(made) => (0, made),
-        Err(refusal) => (refusal as u8, Vec::new()),
+        Err(refusal) => (refusal.number(), Vec::new()),
     }
 }
 

@@ -4,7 +4,9 @@ mod acting;
 mod building;
 pub mod case;
 mod changes;
+mod configuration;
 pub mod control;
+mod flaws;
 mod reading;
 mod rewriting;
 mod shapes;
@@ -13,13 +15,28 @@ pub mod wishes;
 mod writing;
 
 use crate::rng::Rng;
-use case::Offer;
+use case::{Case, Offer};
+
+/// Pages with one to four offending bytes, for each call that reads or applies a page.
+pub const OFFENDING: [fn(&mut Rng) -> Case; 5] = [
+    configuration::offending,
+    reading::offending_status,
+    reading::offending_thresholds,
+    control::offending,
+    threshold_out::offending,
+];
 
 pub fn offer_all(rng: &mut Rng, offer: Offer) {
     writing::offer_all(rng, offer);
     reading::offer_all(rng, offer);
+    configuration::offer_all(rng, offer);
     rewriting::offer_all(rng, offer);
     control::offer_all(rng, offer);
     threshold_out::offer_all(rng, offer);
     building::offer_all(rng, offer);
+    for offending in OFFENDING {
+        for _ in 0..1_500 {
+            offer(offending(rng));
+        }
+    }
 }

@@ -1,5 +1,6 @@
 //! Compares the twelve calls on pages with the library's.
 
+use super::before;
 use super::cases::{self, case::Case};
 use super::coverage::Coverage;
 use crate::hex;
@@ -36,6 +37,7 @@ pub fn run(command: &[&str]) -> bool {
 impl Comparison {
     fn take(&mut self, case: Case) {
         let expected = case.answer();
+        hold_to_before(&case, expected.number);
         self.coverage.count(&case, &expected);
         if self.waiting_bytes + expected.bytes.len() > ANSWERED_AT_ONCE {
             self.ask();
@@ -61,6 +63,19 @@ impl Comparison {
     }
 }
 
+/// The number is that of then, but for 12, which was 4.
+fn hold_to_before(case: &Case, number: u8) {
+    let as_then = if number == 12 { 4 } else { number };
+    match before::number(case) {
+        Some(then) if then != as_then => {
+            println!("pages: {} was {then} and is {number}", case.call.name);
+            print_given(case);
+            exit(1)
+        }
+        _ => {}
+    }
+}
+
 fn case_request(case: &Case) -> Vec<u8> {
     request(
         case.call.letter,
@@ -70,13 +85,19 @@ fn case_request(case: &Case) -> Vec<u8> {
 
 fn stop(case: &Case, answer: &[u8], expected: &[u8]) -> ! {
     println!("pages: {} differs", case.call.name);
+    print_given(case);
+    for (whose, answer) in [("library", answer), ("expected", expected)] {
+        println!("{whose}: {}", case.call.numbers(answer));
+        print_bytes(whose, answer);
+    }
+    exit(1)
+}
+
+fn print_given(case: &Case) {
     for input in &case.inputs {
         print_bytes("given", input);
     }
     print_bytes("output, record or shelf before", &case.lent);
-    print_bytes("library", answer);
-    print_bytes("expected", expected);
-    exit(1)
 }
 
 fn print_bytes(what: &str, bytes: &[u8]) {

@@ -1,5 +1,8 @@
 //! How often the calls compared brought up each thing that they can.
 
+mod refused;
+mod tally;
+
 use super::calls::{
     self, Answer, APPLY_CONTROL, APPLY_THRESHOLDS, BUILD_CONTROL, READ_STATUS, REWRITE_STATUS,
     WRITE_STATUS,
@@ -9,18 +12,11 @@ use super::status::Status;
 use super::{parts, ElementPage, Refusal, TypeElements};
 use crate::bits::{bit, flag};
 use crate::limits::STATUS_ENTRY_BYTES;
-use crate::record::{self, Configuration, Group, Kind, Shelf};
+use crate::record::{self, Configuration, Group, Shelf};
 use crate::shown::Place;
-use std::collections::BTreeMap;
+use refused::Refused;
 use std::iter::zip;
-
-const LEAST_OF_EACH: usize = 100;
-
-/// The numbers that can come up under each name.
-struct Table<'a> {
-    title: &'a str,
-    possible: &'a [(&'static str, &'a [u8])],
-}
+use tally::{kind_name, place_name, Table, Tally, LEAST_OF_EACH};
 
 const CODES: Table = Table {
     title: "codes on the status pages written",
@@ -133,13 +129,10 @@ const BUILT_OVERALL: Table = Table {
     ],
 };
 
-/// How often each number came up under each name.
-#[derive(Default)]
-struct Tally(BTreeMap<(&'static str, u8), usize>);
-
 #[derive(Default)]
 pub struct Coverage {
     outcomes: Tally,
+    refused: Refused,
     codes: Tally,
     read: Tally,
     rewritten: Tally,
@@ -153,42 +146,14 @@ pub struct Coverage {
     built_overall: Tally,
 }
 
-impl Tally {
-    fn count(&mut self, name: &'static str, number: u8) {
-        *self.0.entry((name, number)).or_insert(0) += 1;
-    }
-
-    /// The fields of a status record that have their largest value.
-    fn count_largest(&mut self, configuration: &[u8], record: &[u8]) {
-        for byte in bytes_of_entries(configuration, record) {
-            if byte.most != 0 && byte.value == byte.most {
-                self.count(place_name(byte.place), byte.at);
-            }
-        }
-    }
-
-    /// One line for each name; false if a number that can come up did so too rarely.
-    fn print(&self, table: &Table) -> bool {
-        println!("pages: {}", table.title);
-        let mut enough = true;
-        for (name, numbers) in table.possible {
-            print!("  {name:21}");
-            for number in *numbers {
-                let times = self.0.get(&(*name, *number)).copied().unwrap_or(0);
-                print!(" {number:2}: {times:<6}");
-                enough &= times >= LEAST_OF_EACH;
-            }
-            println!();
-        }
-        enough
-    }
-}
-
 impl Coverage {
     pub fn count(&mut self, case: &Case, answer: &Answer) {
         let Case { call, inputs, lent } = case;
         self.outcomes.count(call.name, answer.number);
-        if call.letter == REWRITE_STATUS.letter && answer.number == Refusal::NotAllowed as u8 {
+        if call.outcomes.contains(&Refusal::NeededLength.number()) {
+            self.refused.count(case, answer);
+        }
+        if call.letter == REWRITE_STATUS.letter && answer.number == Refusal::NotAllowed.number() {
             self.count_fault(&inputs[0], &inputs[1]);
         }
         if answer.number != 0 {
@@ -197,9 +162,9 @@ impl Coverage {
         if call.letter == WRITE_STATUS.letter {
             self.count_codes(&shelf_of(&inputs[0]));
         } else if call.letter == READ_STATUS.letter {
-            self.read.count_largest(&inputs[0], &answer.bytes[1..]);
+            count_largest(&mut self.read, &inputs[0], answer.record());
         } else if call.letter == REWRITE_STATUS.letter {
-            self.rewritten.count_largest(&inputs[0], &inputs[1]);
+            count_largest(&mut self.rewritten, &inputs[0], &inputs[1]);
         } else if call.letter == APPLY_CONTROL.letter {
             let before = self.count_changed(call.name, lent, answer);
             self.count_selects(&before, &inputs[0]);
@@ -235,6 +200,7 @@ impl Coverage {
         for (tally, table) in tallies {
             enough &= tally.print(table);
         }
+        enough &= self.refused.print();
         if !enough {
             println!("too few: at least {LEAST_OF_EACH} of each are wanted");
         }
@@ -263,7 +229,7 @@ impl Coverage {
 
     /// Hands back the shelf as it was before.
     fn count_changed(&mut self, call: &'static str, lent: &[u8], answer: &Answer) -> Shelf {
-        let (before, after) = (shelf_of(lent), shelf_of(&answer.bytes[1..]));
+        let (before, after) = (shelf_of(lent), shelf_of(answer.record()));
         let elements = zip(before.elements(), after.elements());
         let changed = elements.filter(|(before, after)| before != after).count();
         self.changed.count(call, changed.min(2) as u8);
@@ -314,6 +280,15 @@ impl Coverage {
     }
 }
 
+/// The fields of a status record that have their largest value.
+fn count_largest(tally: &mut Tally, configuration: &[u8], record: &[u8]) {
+    for byte in bytes_of_entries(configuration, record) {
+        if byte.most != 0 && byte.value == byte.most {
+            tally.count(place_name(byte.place), byte.at);
+        }
+    }
+}
+
 fn select(element: [u8; 4]) -> bool {
     bit(element[0], 7)
 }
@@ -352,20 +327,4 @@ fn bytes_of_entries(configuration: &[u8], record: &[u8]) -> Vec<EntryByte> {
         })
     });
     bytes.collect()
-}
-
-fn place_name(place: Place) -> &'static str {
-    match place {
-        Place::Overall => "overall",
-        Place::Individual(kind) => kind_name(kind),
-    }
-}
-
-fn kind_name(kind: Kind) -> &'static str {
-    match kind {
-        Kind::Cooling => "cooling",
-        Kind::Temperature => "temperature",
-        Kind::Voltage => "voltage",
-        Kind::Current => "current",
-    }
 }

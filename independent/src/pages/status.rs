@@ -1,6 +1,6 @@
 //! The Status page, 02h.
 
-use super::{joined, parts, ElementPage, Refusal};
+use super::{joined, none_of, parts, ElementPage, Refusal};
 use crate::bits::{bit, flag};
 use crate::element::Code;
 use crate::limits::STATUS_ENTRY_BYTES;
@@ -9,6 +9,8 @@ use crate::shown::{Place, Shown};
 use std::iter::{once, zip};
 
 const CODE: u8 = 0x02;
+/// All but NON-CRIT and CRIT.
+const RESERVED_IN_BYTE1: u8 = 0xF9;
 const WORST_FIRST: [Code; 4] = [
     Code::Critical,
     Code::NonCritical,
@@ -49,17 +51,17 @@ impl Status {
         page.written(CODE, generation)
     }
 
-    /// Refusals 2 to 6.
+    /// Refusals 2, 3, 4, 12, 5, 6.
     pub fn read(configuration: &Configuration, page: &[u8]) -> Result<Status, Refusal> {
-        let ElementPage { byte1, elements } = ElementPage::read(CODE, configuration, page)?;
-        let [noncritical, critical] = [bit(byte1, 2), bit(byte1, 1)];
-        if flag(noncritical, 2) + flag(critical, 1) != byte1 {
-            return Err(Refusal::NotAllowed);
-        }
+        let page = ElementPage::read(CODE, configuration, page)?;
+        none_of(offences(configuration, &page))?;
+        let elements = zip(configuration.places(), page.elements);
         Ok(Status {
-            noncritical,
-            critical,
-            shown: all_allowed(configuration, elements, Shown::from_element)?,
+            noncritical: bit(page.byte1, 2),
+            critical: bit(page.byte1, 1),
+            shown: elements
+                .map(|(place, element)| Shown::from_element(place, element))
+                .collect(),
         })
     }
 
@@ -74,9 +76,19 @@ impl Status {
         Ok(Status {
             noncritical: allowed_flag(noncritical)?,
             critical: allowed_flag(critical)?,
-            shown: all_allowed(configuration, entries, Shown::from_entry)?,
+            shown: all_allowed(configuration, entries)?,
         })
     }
+}
+
+/// The offending bytes in page order.
+pub fn offences<'a>(
+    configuration: &Configuration,
+    page: &'a ElementPage,
+) -> impl Iterator<Item = usize> + 'a {
+    let places = configuration.places().into_iter();
+    let byte1 = page.byte1_offence(RESERVED_IN_BYTE1).into_iter();
+    byte1.chain(page.element_offences(places, Place::offends))
 }
 
 fn overall(group: &Group) -> Shown {
@@ -87,13 +99,12 @@ fn overall(group: &Group) -> Shown {
     Shown::overall(worst.map_or(0, Code::number))
 }
 
-fn all_allowed<T>(
+fn all_allowed(
     configuration: &Configuration,
-    given: Vec<T>,
-    read: fn(Place, T) -> Option<Shown>,
+    entries: Vec<[u8; STATUS_ENTRY_BYTES]>,
 ) -> Result<Vec<Shown>, Refusal> {
-    let shown: Option<Vec<Shown>> = zip(configuration.places(), given)
-        .map(|(place, bytes)| read(place, bytes))
+    let shown: Option<Vec<Shown>> = zip(configuration.places(), entries)
+        .map(|(place, entry)| Shown::from_entry(place, entry))
         .collect();
     shown.ok_or(Refusal::NotAllowed)
 }

@@ -1,24 +1,32 @@
 //! The Threshold Out page, 05h.
 
-use super::{ElementPage, Refusal, TypeElements};
+use super::{none_of, ElementPage, Refusal, TypeElements};
 use crate::record::{Element, Group, Shelf, Thresholds};
 use std::iter::zip;
 
 const CODE: u8 = 0x05;
+const RESERVED_IN_BYTE1: u8 = 0xFF;
 
-/// The shelf after the page. Refusals 2 to 8.
+/// The shelf after the page. Refusals 2, 3, 4, 12, 5 to 8.
 pub fn after(shelf: &Shelf, page: &[u8]) -> Result<Shelf, Refusal> {
     let configuration = shelf.configuration();
     let page = ElementPage::read(CODE, &configuration, page)?;
-    if page.byte1 != 0 {
-        return Err(Refusal::NotAllowed);
-    }
-    let asked = page.by_type(&configuration);
-    if !zip(&shelf.groups, &asked).all(|(group, asked)| has_all(group, asked)) {
+    none_of(offences(&page))?;
+    joined(shelf, &page.by_type(&configuration))
+}
+
+/// The only byte that can offend.
+pub fn offences(page: &ElementPage) -> impl Iterator<Item = usize> {
+    page.byte1_offence(RESERVED_IN_BYTE1).into_iter()
+}
+
+/// The shelf with what each type is asked for. Refusals 7, 8.
+pub fn joined(shelf: &Shelf, asked: &[TypeElements]) -> Result<Shelf, Refusal> {
+    if !zip(&shelf.groups, asked).all(|(group, asked)| has_all(group, asked)) {
         return Err(Refusal::NoSuchThreshold);
     }
     let mut after = shelf.clone();
-    for (group, asked) in zip(&mut after.groups, &asked) {
+    for (group, asked) in zip(&mut after.groups, asked) {
         join(group, asked);
     }
     if after.elements().all(keeps_order) {

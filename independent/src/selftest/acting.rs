@@ -2,7 +2,7 @@
 
 use super::checks::Checks;
 use super::examples::{
-    block_a, current, fan, fan_with, group, plain, shelf_a, shelf_a_of, temperature,
+    block_a, current, fan, fan_with, group, handed_back, plain, shelf_a, shelf_a_of, temperature,
     wishes_of_the_paper, with, NOISE, RST_SWAP, SPEED_5, SWAP, UNSELECTED,
 };
 use crate::cases;
@@ -47,17 +47,11 @@ fn page(code: u8, elements: &[[u8; 4]]) -> Vec<u8> {
 }
 
 fn accepted(after: &Shelf) -> Answer {
-    Answer {
-        number: 0,
-        bytes: [vec![0], after.block()].concat(),
-    }
+    handed_back(0, 0, &after.block())
 }
 
 fn refused(number: u8, block: &[u8]) -> Answer {
-    Answer {
-        number,
-        bytes: [&[number], block].concat(),
-    }
+    handed_back(number, 0, block)
 }
 
 fn fans_a_acting(checks: &mut Checks) {
@@ -78,7 +72,7 @@ fn swap_setters() -> usize {
         for byte1 in [0x00, 0x80] {
             for byte3 in 0x00..=0xFF {
                 let page = control_page(&[UNSELECTED, [byte0, byte1, 0, byte3]]);
-                let first_settings = apply_control(&shelf, &page).bytes[1 + ELEMENTS_AT];
+                let first_settings = apply_control(&shelf, &page).record()[ELEMENTS_AT];
                 setters += usize::from(first_settings & 0x10 != 0);
             }
         }
@@ -110,8 +104,9 @@ fn headers_for_a(checks: &mut Checks) {
 }
 
 /// Pages for A, spoiled, with the number of the refusal. The other page has the other code, 02h or 05h.
-fn flawed_headers(page: &[u8]) -> [(&'static str, u8, Vec<u8>); 12] {
+fn flawed_headers(page: &[u8]) -> [(&'static str, u8, Vec<u8>); 20] {
     let longer = [page, &[0]].concat();
+    let four_fans = with(&[page, &[0; 4]].concat(), 3, &[0x18]);
     let other = 0x07 - page[0];
     [
         ("empty page", 2, Vec::new()),
@@ -121,8 +116,16 @@ fn flawed_headers(page: &[u8]) -> [(&'static str, u8, Vec<u8>); 12] {
         ("other page, 25 bytes", 3, with(&longer, 0, &[other])),
         ("23 bytes", 4, page[..23].to_vec()),
         ("25 bytes", 4, longer.clone()),
-        ("25 bytes, said so", 4, with(&longer, 3, &[0x15])),
-        ("two fans", 4, with(&page[..20], 2, &[0x00, 0x10])),
+        ("24 bytes, 0013h", 4, with(page, 3, &[0x13])),
+        ("24 bytes, 0114h", 4, with(page, 2, &[0x01])),
+        ("28 bytes, 0014h", 4, with(&four_fans, 3, &[0x14])),
+        ("4 bytes, said so", 12, vec![page[0], 0, 0, 0]),
+        ("8 bytes, said so", 12, with(&page[..8], 3, &[0x04])),
+        ("25 bytes, said so", 12, with(&longer, 3, &[0x15])),
+        ("two fans", 12, with(&page[..20], 2, &[0x00, 0x10])),
+        ("four fans", 12, four_fans.clone()),
+        ("four fans and generation 8", 12, with(&four_fans, 7, &[8])),
+        ("four fans and byte 1", 12, with(&four_fans, 1, &[0x80])),
         ("generation 8", 5, with(page, 7, &[8])),
         ("25 bytes and generation 8", 4, with(&longer, 7, &[8])),
         (
@@ -172,7 +175,7 @@ fn choosing(checks: &mut Checks) {
 
 /// How the status page then shows the only element.
 fn shown(answer: &Answer) -> Vec<u8> {
-    let page = write_status(&answer.bytes[1..], &[0; 16]);
+    let page = write_status(answer.record(), &[0; 16]);
     page.bytes[5 + 12..].to_vec()
 }
 
@@ -199,20 +202,29 @@ fn reserved_bits(checks: &mut Checks) {
     ];
     for (kind, named) in named {
         let block = shelf_a_of(kind, vec![plain(kind)]).block();
-        let number = |elements: &[[u8; 4]]| apply_control(&block, &control_page(elements)).number;
+        let outcome = |elements: &[[u8; 4]]| {
+            let answer = apply_control(&block, &control_page(elements));
+            (answer.number, answer.offset())
+        };
         let empty = shelf_a_of(kind, Vec::new()).block();
         for place in 0..32 {
             let bit = 1_u32 << place;
             let selected = (0x8000_0000 | bit).to_be_bytes();
-            let expected = if named & bit == 0 { 6 } else { 0 };
+            let byte = 3 - place / 8;
+            let expected = |element: usize| match named & bit {
+                0 => (6, element + byte),
+                _ => (0, 0),
+            };
             let what = format!("{kind:?} with {selected:02X?}");
-            checks.equal(&what, number(&[selected, UNSELECTED]), expected);
-            checks.equal(&what, number(&[UNSELECTED, selected]), expected);
-            checks.equal(&what, number(&[selected, SELECTED]), expected);
+            checks.equal(&what, outcome(&[selected, UNSELECTED]), expected(8));
+            checks.equal(&what, outcome(&[UNSELECTED, selected]), expected(12));
+            checks.equal(&what, outcome(&[selected, SELECTED]), expected(8));
+            checks.equal(&what, outcome(&[selected, selected]), expected(8));
             let without_elements = apply_control(&empty, &control_page(&[selected]));
-            checks.equal(&what, without_elements.number, expected);
+            let without_elements = (without_elements.number, without_elements.offset());
+            checks.equal(&what, without_elements, expected(8));
             let unselected = (0x7FFF_FFFF & bit).to_be_bytes();
-            checks.equal("unselected", number(&[unselected, unselected]), 0);
+            checks.equal("unselected", outcome(&[unselected, unselected]), (0, 0));
         }
     }
 }
@@ -223,11 +235,13 @@ fn page_byte_1(checks: &mut Checks) {
     let thresholds = threshold_page(&[[0; 4]; 4]);
     for byte1 in 0..=0xFF {
         let answer = apply_control(&block, &with(&control, 1, &[byte1]));
-        let number = if byte1 < 0x10 { 0 } else { 6 };
-        checks.equal("control, page byte 1", answer.number, number);
+        let expected = if byte1 < 0x10 { (0, 0) } else { (6, 1) };
+        let outcome = (answer.number, answer.offset());
+        checks.equal("control, page byte 1", outcome, expected);
         let answer = apply_thresholds(&block, &with(&thresholds, 1, &[byte1]));
-        let number = if byte1 == 0 { 0 } else { 6 };
-        checks.equal("thresholds, page byte 1", answer.number, number);
+        let expected = if byte1 == 0 { (0, 0) } else { (6, 1) };
+        let outcome = (answer.number, answer.offset());
+        checks.equal("thresholds, page byte 1", outcome, expected);
     }
 }
 
@@ -256,7 +270,7 @@ fn types_apart(checks: &mut Checks) {
     checks.equal(
         "a reserved bit in the last element",
         apply_control(&before, &control_page(&spoiled)),
-        refused(6, &before),
+        handed_back(6, 26, &before),
     );
 }
 
@@ -323,7 +337,7 @@ fn thresholds_refused(checks: &mut Checks) {
     checks.equal(
         "6, 7 and 8",
         apply_thresholds(&block, &with(&page, 1, &[1])),
-        refused(6, &block),
+        handed_back(6, 1, &block),
     );
 }
 
@@ -391,7 +405,7 @@ impl Law {
         let answer = (self.call)(&before, page);
         let what = |law: &str| format!("{}: {law}", self.name);
         checks.equal(&what("accepted"), answer.number, 0);
-        let after = &answer.bytes[1..];
+        let after = answer.record();
         let only_these = alike_but_for(self.changed_from, &before, after);
         checks.equal(&what("nothing else"), only_these, true);
         let again = (self.call)(after, page);

@@ -356,7 +356,7 @@ impl World {
         for page in self.every_page() {
             let answer = apply_control(block, &page);
             if answer.number == 0 {
-                let reached = settings_of(&answer.bytes[1..]);
+                let reached = settings_of(answer.record());
                 let this = (selects_on(&page), page);
                 let least = best.entry(reached).or_insert_with(|| this.clone());
                 if this < *least {
@@ -410,7 +410,7 @@ fn laws(checks: &mut Checks) {
         let before = shelf.block();
         let any_page = control::accepted_page(&mut rng, &shelf);
         let after = apply_control(&before, &any_page);
-        let wish = settings_of(&after.bytes[1..]);
+        let wish = settings_of(after.record());
         let answer = build_control(&before, &wish, &vec![BEFORE; any_page.len()]);
         checks.equal("a wish that a page reaches", answer.number, 0);
         let page = &answer.bytes[9..];

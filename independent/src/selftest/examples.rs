@@ -1,6 +1,7 @@
 //! Shelf A, and shelves, elements and requests like those of the paper's examples.
 
 use crate::limits::{MOST_ELEMENTS, MOST_OF_TYPE};
+use crate::pages::calls::Answer;
 use crate::record::{
     Element, FanSettings, Group, Identification, Kind, Settings, Shelf, Thresholds,
 };
@@ -232,6 +233,14 @@ pub fn plain(kind: Kind) -> Element {
         Kind::Temperature => temperature(64, none),
         Kind::Voltage => voltage(1, 1, none),
         Kind::Current => current(1, 1, none),
+    }
+}
+
+/// The answer of a call that hands back a record or shelf.
+pub fn handed_back(number: u8, offset: u8, record: &[u8]) -> Answer {
+    Answer {
+        number,
+        bytes: [&[number, 0, 0, 0, offset], record].concat(),
     }
 }
 

@@ -2,13 +2,13 @@
 
 use super::checks::Checks;
 use super::examples::{
-    block_a, current, fan, fan_at, fan_like, fans_a, group, high_critical, high_warning,
-    largest_shelf, low_critical, plain, shelf_a, shelf_a_of, temperature, voltage, with, BEFORE,
+    block_a, current, fan, fan_at, fan_like, fans_a, group, handed_back, high_critical,
+    high_warning, low_critical, plain, shelf_a, shelf_a_of, temperature, voltage, with, BEFORE,
     SWAP,
 };
 use crate::limits::{
-    configuration_page_bytes, CONFIGURATION_BYTES, FASTEST, HIGHEST_CODE, HIGHEST_SPEED,
-    LAST_LETTER, LONGEST_PAGE, STATUS_BYTES, STATUS_ENTRY_BYTES, THRESHOLDS_BYTES, TYPES_AT,
+    CONFIGURATION_BYTES, FASTEST, HIGHEST_CODE, HIGHEST_SPEED, STATUS_BYTES, STATUS_ENTRY_BYTES,
+    THRESHOLDS_BYTES, TYPES_AT,
 };
 use crate::pages::calls::{
     read_configuration, read_status, read_thresholds, rewrite_configuration, rewrite_status,
@@ -70,9 +70,7 @@ fn not_written(number: u8, room: usize) -> Answer {
 }
 
 fn not_read(number: u8, record: usize) -> Answer {
-    let mut bytes = vec![number];
-    bytes.resize(1 + record, BEFORE);
-    Answer { number, bytes }
+    handed_back(number, 0, &vec![BEFORE; record])
 }
 
 fn pages_of_a(checks: &mut Checks) {
@@ -128,14 +126,10 @@ fn output_lengths(checks: &mut Checks) {
 
 fn configurations_read(checks: &mut Checks) {
     let page = configuration_a();
-    let accepted = Answer {
-        number: 0,
-        bytes: [vec![0], configuration_block_a()].concat(),
-    };
     checks.equal(
         "configuration of A read",
         read_configuration(&page, &[BEFORE; CONFIGURATION_BYTES]),
-        accepted,
+        handed_back(0, 0, &configuration_block_a()),
     );
     for (what, number, page) in flawed_configurations(&page) {
         let answer = read_configuration(&page, &[BEFORE; CONFIGURATION_BYTES]);
@@ -145,7 +139,6 @@ fn configurations_read(checks: &mut Checks) {
 
 /// Pages of A, spoiled, with the number of the refusal.
 fn flawed_configurations(page: &[u8]) -> [(&'static str, u8, Vec<u8>); 22] {
-    let no_types = with(&page[..48], 2, &[0x00, 0x2C, 0, 0, 0, 7, 0x11, 0x00, 0x00]);
     [
         ("empty page", 2, Vec::new()),
         ("page of 3 bytes", 2, page[..3].to_vec()),
@@ -158,54 +151,47 @@ fn flawed_configurations(page: &[u8]) -> [(&'static str, u8, Vec<u8>); 22] {
         ),
         ("54 bytes", 4, page[..54].to_vec()),
         ("56 bytes", 4, [page, b" "].concat()),
-        ("4 bytes, said so", 4, vec![0x01, 0x00, 0x00, 0x00]),
-        ("47 bytes, said so", 4, with(&page[..47], 2, &[0x00, 0x2B])),
-        (
-            "headers beyond the page",
-            4,
-            with(&page[..51], 2, &[0x00, 0x2F]),
-        ),
-        ("texts beyond the page", 4, with(page, 51, &[0x04])),
-        ("255 types", 4, with(page, 10, &[0xFF])),
-        ("text shorter than the page", 4, with(page, 51, &[0x02])),
+        ("55 bytes, 0032h", 4, with(page, 3, &[0x32])),
+        ("55 bytes, 0133h", 4, with(page, 2, &[0x01])),
+        ("47 bytes", 4, page[..47].to_vec()),
+        ("48 bytes", 4, page[..48].to_vec()),
+        ("51 bytes", 4, page[..51].to_vec()),
         ("length and byte 1", 4, with(page, 1, &[0x01, 0x00, 0x34])),
-        ("byte 1", 6, with(page, 1, &[0x01])),
-        ("two processes", 6, with(page, 8, &[0x12])),
-        ("subenclosure 1", 6, with(page, 9, &[0x01])),
-        ("no types", 6, no_types),
-        ("descriptor length", 6, with(page, 11, &[0x25])),
-        ("type not served", 6, with(page, 48, &[0x17])),
-        ("an element too many", 6, an_element_too_many()),
-        ("unprintable text", 6, with(page, 54, &[LAST_LETTER + 1])),
+        ("4 bytes, said so", 12, vec![0x01, 0x00, 0x00, 0x00]),
+        ("47 bytes, said so", 12, with(&page[..47], 2, &[0x00, 0x2B])),
+        ("48 bytes, said so", 12, with(&page[..48], 2, &[0x00, 0x2C])),
+        ("51 bytes, said so", 12, with(&page[..51], 2, &[0x00, 0x2F])),
+        ("54 bytes, said so", 12, with(&page[..54], 2, &[0x00, 0x32])),
+        ("a text of 4 letters", 12, with(page, 51, &[0x04])),
+        ("a text of 2 letters", 12, with(page, 51, &[0x02])),
+        ("255 types", 12, with(page, 10, &[0xFF])),
+        (
+            "255 types and byte 1",
+            12,
+            with(&with(page, 10, &[0xFF]), 1, &[0x01]),
+        ),
     ]
-}
-
-/// The page of the largest shelf, whose last type then has one element more.
-fn an_element_too_many() -> Vec<u8> {
-    let largest = largest_shelf();
-    let answer = write_configuration(&largest.block(), &[BEFORE; LONGEST_PAGE]);
-    let mut page = answer.bytes[5..][..answer.written()].to_vec();
-    let last_header = configuration_page_bytes(largest.groups.len() - 1, 0);
-    page[last_header + 1] += 1;
-    page
 }
 
 fn status_headers(checks: &mut Checks) {
     let configuration = configuration_block_a();
     let longer = [&STATUS_A[..], &[0]].concat();
     let one_fan_more = with(&[&STATUS_A[..], &[0; 4]].concat(), 2, &[0x00, 0x18]);
-    let cases: [(&str, u8, Vec<u8>); 10] = [
+    let cases: [(&str, u8, Vec<u8>); 13] = [
         ("page of 3 bytes", 2, STATUS_A[..3].to_vec()),
         ("threshold page as status", 3, THRESHOLDS_A.to_vec()),
         ("23 bytes", 4, STATUS_A[..23].to_vec()),
         ("25 bytes", 4, longer.clone()),
+        ("24 bytes, 0018h", 4, with(&STATUS_A, 3, &[0x18])),
         (
             "23 bytes, said so",
-            4,
+            12,
             with(&STATUS_A[..23], 2, &[0x00, 0x13]),
         ),
-        ("no generation code", 4, vec![0x02, 0x00, 0x00, 0x00]),
-        ("four fans", 4, one_fan_more),
+        ("no generation code", 12, vec![0x02, 0x00, 0x00, 0x00]),
+        ("four fans", 12, one_fan_more.clone()),
+        ("four fans and generation", 12, with(&one_fan_more, 7, &[8])),
+        ("four fans and byte 1", 12, with(&one_fan_more, 1, &[1])),
         ("generation 8", 5, with(&STATUS_A, 7, &[8])),
         ("length and generation", 4, with(&longer, 7, &[8])),
         (
@@ -245,22 +231,30 @@ fn status_fields(checks: &mut Checks) {
             let elements = [overall.to_be_bytes(), element.to_be_bytes()].concat();
             [&HEADER_OF_TWO[..], &elements].concat()
         };
-        let number = |page: &[u8]| read_status(&configuration, page, &[0; STATUS_BYTES]).number;
+        let outcome = |page: &[u8]| {
+            let answer = read_status(&configuration, page, &[0; STATUS_BYTES]);
+            (answer.number, answer.offset())
+        };
         for place in 0..32 {
             let bit = 1_u32 << place;
             let what = format!("{kind:?}, bit {place}");
-            let allowed = |named: u32| if named & bit == 0 { 6 } else { 0 };
-            checks.equal(&what, number(&page(bit, 0)), allowed(individual));
-            checks.equal(&what, number(&page(0, bit)), allowed(0x0F00_0000));
+            let byte = 3 - place / 8;
+            let allowed = |named: u32, element: usize| match named & bit {
+                0 => (6, element + byte),
+                _ => (0, 0),
+            };
+            checks.equal(&what, outcome(&page(bit, 0)), allowed(individual, 12));
+            checks.equal(&what, outcome(&page(0, bit)), allowed(0x0F00_0000, 8));
         }
         let [highest, higher] = [HIGHEST_CODE, HIGHEST_CODE + 1].map(|code| u32::from(code) << 24);
-        checks.equal("code too high", number(&page(higher, 0)), 6);
-        checks.equal("overall code too high", number(&page(0, higher)), 6);
-        checks.equal("highest code", number(&page(highest, highest)), 0);
+        checks.equal("code too high", outcome(&page(higher, 0)), (6, 12));
+        checks.equal("overall code too high", outcome(&page(0, higher)), (6, 8));
+        checks.equal("highest code", outcome(&page(highest, highest)), (0, 0));
         for byte1 in 0..=0xFF {
-            let expected = if [0, 2, 4, 6].contains(&byte1) { 0 } else { 6 };
+            let allowed = [0, 2, 4, 6].contains(&byte1);
+            let expected = if allowed { (0, 0) } else { (6, 1) };
             let page = with(&page(0, 0), 1, &[byte1]);
-            checks.equal("page byte 1", number(&page), expected);
+            checks.equal("page byte 1", outcome(&page), expected);
         }
     }
 }
@@ -310,22 +304,18 @@ fn entries_of_elements() -> [(Element, [u8; STATUS_ENTRY_BYTES]); 6] {
 }
 
 fn statuses_handed_back(checks: &mut Checks) {
-    let expected = Answer {
-        number: 0,
-        bytes: [vec![0], record_a()].concat(),
-    };
     checks.equal(
         "status of A read",
         read_status(&configuration_block_a(), &STATUS_A, &[BEFORE; STATUS_BYTES]),
-        expected,
+        handed_back(0, 0, &record_a()),
     );
     for (element, entry) in entries_of_elements() {
         let shelf = shelf_a_of(element.kind(), vec![element]);
         let page = write_status(&shelf.block(), &[0; 16]).bytes[5..].to_vec();
         let configuration = shelf.configuration().block();
         let answer = read_status(&configuration, &page, &[BEFORE; STATUS_BYTES]);
-        checks.equal("entry handed back", &answer.bytes[21..37], &entry[..]);
-        let again = rewrite_status(&configuration, &answer.bytes[1..], &[BEFORE; 16]);
+        checks.equal("entry handed back", &answer.record()[20..36], &entry[..]);
+        let again = rewrite_status(&configuration, answer.record(), &[BEFORE; 16]);
         checks.equal("entry written again", again, written(&page, 16));
     }
 }
@@ -377,8 +367,8 @@ fn fields_handed_back(checks: &mut Checks) {
             let answer = read_status(&configuration, &page, &[BEFORE; STATUS_BYTES]);
             let entry = with(&[0; STATUS_ENTRY_BYTES], at, &[1]);
             let what = format!("{kind:?}, field {at} is 1");
-            checks.equal(&what, &answer.bytes[21..37], &entry[..]);
-            let again = rewrite_status(&configuration, &answer.bytes[1..], &[BEFORE; 16]);
+            checks.equal(&what, &answer.record()[20..36], &entry[..]);
+            let again = rewrite_status(&configuration, answer.record(), &[BEFORE; 16]);
             checks.equal(&what, again, written(&page, 16));
         }
     }
@@ -493,17 +483,17 @@ fn thresholds_read(checks: &mut Checks) {
         let answer = read_thresholds(&configuration, &page, &[BEFORE; THRESHOLDS_BYTES]);
         let mut record = [&[0, 0, 0, 2][..], &overall, &individual].concat();
         record.resize(THRESHOLDS_BYTES, BEFORE);
+        let first_overall = 8 + overall.iter().take_while(|byte| **byte == 0).count();
         let expected = match number {
-            0 => Answer {
-                number,
-                bytes: [vec![0], record].concat(),
-            },
+            0 => handed_back(0, 0, &record),
+            6 => handed_back(6, first_overall as u8, &[BEFORE; THRESHOLDS_BYTES]),
             _ => not_read(number, THRESHOLDS_BYTES),
         };
         checks.equal("thresholds read", answer, expected);
         let byte1 = with(&page, 1, &[2]);
         let answer = read_thresholds(&configuration, &byte1, &[BEFORE; THRESHOLDS_BYTES]);
-        checks.equal("page byte 1", answer, not_read(6, THRESHOLDS_BYTES));
+        let expected = handed_back(6, 1, &[BEFORE; THRESHOLDS_BYTES]);
+        checks.equal("page byte 1", answer, expected);
     }
 }
 

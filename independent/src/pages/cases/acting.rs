@@ -1,12 +1,11 @@
 //! What the two calls that act have in common: pages that they accept, spoiled in every way.
 
 use super::case::{Case, Offer, ROOM};
-use super::changes::{
-    change, flip_bit, of_every_length, say_own_length, strange_page, with_every_value,
-};
+use super::changes::{change, flip_bit, of_every_length, strange_page, with_every_value};
+use super::flaws::{offending, together, Attempt, Flaws};
 use super::shapes::{between_two, one_of_each, shelf, some_of_each};
 use crate::cases::{malformed_block, LONG_BLOCK};
-use crate::limits::{element_page_bytes, SLOTS_AT, TYPES_AT};
+use crate::limits::{element_page_bytes, TYPES_AT};
 use crate::pages::calls::Call;
 use crate::pages::ElementPage;
 use crate::record::{Kind, Shelf};
@@ -17,28 +16,9 @@ pub struct Actor {
     pub call: &'static Call,
     pub code: u8,
     pub accepted: fn(&mut Rng, &Shelf) -> Vec<u8>,
-    /// The reasons for its refusals from number 6 on.
-    pub flaws: &'static [Flaw],
+    /// The reasons for its refusals, 6 first.
+    pub flaws: Flaws,
 }
-
-/// A shelf that has elements of every type, its block, and a page for it.
-pub struct Attempt {
-    pub shelf: Shelf,
-    block: Vec<u8>,
-    pub page: Vec<u8>,
-}
-
-/// Gives the reason for one refusal, and for none with a smaller number.
-pub type Flaw = fn(&mut Attempt, &mut Rng);
-
-/// By the number of the refusal.
-const FLAWS: [Flaw; 5] = [
-    broken_shelf,
-    too_short,
-    other_code,
-    other_length,
-    other_generation,
-];
 
 /// Rarely or mostly, all or none.
 #[derive(Clone, Copy)]
@@ -126,11 +106,22 @@ impl Actor {
             offer(self.random_bytes(rng));
         }
         for _ in 0..10 {
-            self.flaws_together(rng, offer);
+            let attempt = |rng: &mut Rng| {
+                let shelf = some_of_each(rng);
+                self.attempt(rng, shelf)
+            };
+            together(rng, self.flaws, attempt, offer);
         }
         self.every_value_of_every_byte(rng, offer);
         self.every_page_length(rng, offer);
         self.every_shelf_length(rng, offer);
+    }
+
+    /// A page with one to four offending bytes.
+    pub fn offending(&self, rng: &mut Rng) -> Case {
+        let shelf = shelf(rng);
+        let attempt = self.attempt(rng, shelf);
+        offending(rng, self.flaws, attempt)
     }
 
     fn changed_page(&self, rng: &mut Rng) -> Case {
@@ -172,32 +163,11 @@ impl Actor {
         self.case_of(block, page)
     }
 
-    /// The reasons for all refusals in every combination, of which the first has to be the answer.
-    fn flaws_together(&self, rng: &mut Rng, offer: Offer) {
-        let flaws: Vec<Flaw> = FLAWS.iter().chain(self.flaws).copied().collect();
-        for chosen in 0..1_usize << flaws.len() {
-            let mut attempt = self.attempt(rng);
-            let is_chosen = |number: &usize| chosen >> (number - 1) & 1 == 1;
-            let numbers: Vec<usize> = (1..=flaws.len()).filter(is_chosen).collect();
-            for number in numbers.iter().rev() {
-                flaws[number - 1](&mut attempt, rng);
-            }
-            let case = self.case_of(attempt.block, attempt.page);
-            let first = numbers.first().copied().unwrap_or(0);
-            let number = usize::from(case.answer().number);
-            assert_eq!(number, first, "{} with flaws {numbers:?}", self.call.name);
-            offer(case);
-        }
-    }
-
-    fn attempt(&self, rng: &mut Rng) -> Attempt {
-        let shelf = some_of_each(rng);
+    /// A page that the shelf accepts.
+    fn attempt(&self, rng: &mut Rng, shelf: Shelf) -> Attempt {
         let page = (self.accepted)(rng, &shelf);
-        Attempt {
-            block: shelf.block(),
-            shelf,
-            page,
-        }
+        let case = self.case(&shelf, page);
+        Attempt { shelf, case }
     }
 
     fn every_value_of_every_byte(&self, rng: &mut Rng, offer: Offer) {
@@ -229,64 +199,4 @@ impl Actor {
             offer(self.case_of(changed, page.clone()));
         }
     }
-}
-
-fn broken_shelf(attempt: &mut Attempt, rng: &mut Rng) {
-    break_block(&mut attempt.block, rng);
-}
-
-/// Makes a well-formed block malformed.
-pub fn break_block(block: &mut Vec<u8>, rng: &mut Rng) {
-    match rng.range(0, 2) {
-        0 => block.push(0),
-        1 => block.truncate(block.len() - 1),
-        _ => {
-            let last = block.len() - 1;
-            let zeros = [TYPES_AT + 1, TYPES_AT + 2, TYPES_AT + 3, SLOTS_AT + 3, last];
-            block[rng.pick(&zeros)] = rng.nonzero_byte();
-        }
-    }
-}
-
-fn too_short(attempt: &mut Attempt, rng: &mut Rng) {
-    attempt.page.truncate(rng.range(0, 3));
-}
-
-fn other_code(attempt: &mut Attempt, rng: &mut Rng) {
-    attempt.page[0] ^= rng.pick(&[0x07, 0x80, 0x01, 0x03]);
-}
-
-fn other_length(attempt: &mut Attempt, rng: &mut Rng) {
-    let page = &mut attempt.page;
-    let more = rng.range(1, 8);
-    match rng.range(0, 4) {
-        0 => page.truncate(page.len() - rng.range(1, 8)),
-        1 => page.extend(vec![0; more]),
-        2 => {
-            page.extend(vec![0; more]);
-            say_own_length(page);
-        }
-        3 => {
-            page.truncate(page.len() - rng.range(1, 8));
-            say_own_length(page);
-        }
-        _ => page[rng.range(2, 3)] ^= 1 << rng.range(0, 7),
-    }
-}
-
-fn other_generation(attempt: &mut Attempt, rng: &mut Rng) {
-    let generation = attempt.shelf.generation;
-    let others = [
-        0,
-        u32::MAX,
-        generation.wrapping_add(1),
-        generation.wrapping_sub(1),
-        generation.swap_bytes(),
-        generation ^ 1 << rng.range(0, 31),
-    ];
-    let other = match rng.pick(&others) {
-        same if same == generation => !generation,
-        other => other,
-    };
-    attempt.page[4..8].copy_from_slice(&other.to_be_bytes());
 }

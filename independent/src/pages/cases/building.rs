@@ -1,9 +1,10 @@
 //! Wishes for the builder of control pages.
 
-use super::acting::{break_block, slots};
+use super::acting::slots;
 use super::case::{output_length, page_written, Case, Offer};
 use super::changes::flip_bit;
 use super::control::{every_setting, every_single_bit, named, with_settings};
+use super::flaws::break_block;
 use super::shapes::{between_two, one_of_each, shelf, some_of_each};
 use super::wishes::{all_changed, any_setting, as_stored, Few, Pair, Pattern, PATTERNS, SWAP};
 use crate::cases::{group, malformed_block, one_type, shelf_of};

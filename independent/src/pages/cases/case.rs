@@ -18,6 +18,12 @@ impl Case {
     pub fn answer(&self) -> Answer {
         self.call.answer(&self.inputs, &self.lent)
     }
+
+    /// Of a call that reads or applies a page.
+    pub fn number_and_offset(&self) -> (u8, usize) {
+        let answer = self.answer();
+        (answer.number, answer.offset())
+    }
 }
 
 /// As long as any page that a shelf has, and longer.

@@ -1,7 +1,8 @@
 //! Enclosure Control pages.
 
-use super::acting::{aimed, put, slots, Actor, Attempt, Chance, Slot, AIMS};
+use super::acting::{aimed, put, slots, Actor, Chance, Slot, AIMS};
 use super::case::{Case, Offer};
+use super::flaws::Attempt;
 use super::shapes::shelf;
 use crate::cases::one_type;
 use crate::limits::{block_bytes, most_elements_of, ELEMENTS_AT, ELEMENT_BYTES};
@@ -16,7 +17,7 @@ static CONTROL: Actor = Actor {
     call: &APPLY_CONTROL,
     code: 0x02,
     accepted: accepted_page,
-    flaws: &[not_allowed],
+    flaws: &[(6, not_allowed)],
 };
 
 pub fn offer_all(rng: &mut Rng, offer: Offer) {
@@ -26,6 +27,9 @@ pub fn offer_all(rng: &mut Rng, offer: Offer) {
         for _ in 0..3 {
             every_bit(rng, kind, offer);
         }
+        for _ in 0..10 {
+            every_reserved_bit(rng, kind, offer);
+        }
         for _ in 0..1_500 {
             offer(few_elements(rng, kind));
         }
@@ -33,6 +37,10 @@ pub fn offer_all(rng: &mut Rng, offer: Offer) {
     for _ in 0..500 {
         offer(as_stored(rng));
     }
+}
+
+pub fn offending(rng: &mut Rng) -> Case {
+    CONTROL.offending(rng)
 }
 
 /// The bits that have a name in a control element of this type, but for SELECT. In the settings of a shelf
@@ -46,6 +54,12 @@ pub fn named(kind: Kind) -> u32 {
 
 fn reserved(kind: Kind) -> u32 {
     !(SELECT | named(kind))
+}
+
+fn reserved_bits(kind: Kind) -> Vec<u32> {
+    every_single_bit()
+        .filter(|bit| bit & reserved(kind) != 0)
+        .collect()
 }
 
 pub fn four_bytes(rng: &mut Rng) -> u32 {
@@ -89,15 +103,12 @@ pub fn accepted_page(rng: &mut Rng, shelf: &Shelf) -> Vec<u8> {
 /// Bit 7 to 4 of page byte 1, or a reserved bit of a selected element.
 fn not_allowed(attempt: &mut Attempt, rng: &mut Rng) {
     if rng.one_in(4) {
-        attempt.page[1] |= 1 << rng.range(4, 7);
+        attempt.page()[1] |= 1 << rng.range(4, 7);
         return;
     }
     let slot = rng.pick(&slots(&attempt.shelf));
-    let reserved: Vec<u32> = every_single_bit()
-        .filter(|bit| bit & reserved(slot.kind) != 0)
-        .collect();
-    let element = selected(rng, slot.kind) | rng.pick(&reserved);
-    put(&mut attempt.page, slot, element.to_be_bytes());
+    let element = selected(rng, slot.kind) | rng.pick(&reserved_bits(slot.kind));
+    put(attempt.page(), slot, element.to_be_bytes());
 }
 
 pub fn every_single_bit() -> impl Iterator<Item = u32> {
@@ -186,6 +197,16 @@ fn every_bit(rng: &mut Rng, kind: Kind, offer: Offer) {
     }
 }
 
+/// Each that is refused, once more.
+fn every_reserved_bit(rng: &mut Rng, kind: Kind, offer: Offer) {
+    for aim in AIMS {
+        for bit in reserved_bits(kind) {
+            let (shelf, slot) = aimed(rng, kind, aim);
+            offer(one_bit_set(rng, &shelf, slot, SELECT | bit));
+        }
+    }
+}
+
 fn one_bit_set(rng: &mut Rng, shelf: &Shelf, slot: Slot, set: u32) -> Case {
     let others = if set & SELECT == 0 {
         unselected(rng)
@@ -195,9 +216,18 @@ fn one_bit_set(rng: &mut Rng, shelf: &Shelf, slot: Slot, set: u32) -> Case {
     let mut page = accepted_page(rng, shelf);
     put(&mut page, slot, (others | set).to_be_bytes());
     let case = CONTROL.case(shelf, page);
-    let refused = set & SELECT != 0 && set & reserved(slot.kind) != 0;
-    let number = if refused { 6 } else { 0 };
-    assert_eq!(case.answer().number, number, "{:?}, {set:08X}", slot.kind);
+    let reserved = set & reserved(slot.kind);
+    let expected = if set & SELECT == 0 || reserved == 0 {
+        (0, 0)
+    } else {
+        (6, slot.at + reserved.leading_zeros() as usize / 8)
+    };
+    assert_eq!(
+        case.number_and_offset(),
+        expected,
+        "{:?}, {set:08X}",
+        slot.kind
+    );
     case
 }
 

@@ -1,62 +1,53 @@
-//! Pages for the three readers: those that a writer wrote, changed ones, and strange ones.
+//! Pages for the readers: those that a writer wrote, changed ones, and strange ones.
 
+use super::acting::{aimed, slots, Slot, AIMS};
 use super::case::{page_written, Case, Offer};
 use super::changes::{
-    change, of_every_length, say_own_length, set, strange_page, with_every_quadruple,
-    with_every_value,
+    change, of_every_length, strange_page, with_every_quadruple, with_every_value,
 };
-use super::shapes::{one_of_each, shelf};
-use crate::cases::{malformed_block, text};
-use crate::limits::{
-    configuration_page_bytes, equal_share, CONFIGURATION_BYTES, FIRST_LETTER, HIGHEST_CODE,
-    LAST_LETTER, LONGEST_SAID, MOST_ELEMENTS, MOST_OF_TYPE, MOST_TEXT, MOST_TYPES, STATUS_BYTES,
-    THRESHOLDS_BYTES, TYPES_AT,
-};
-use crate::pages::calls::{
-    Call, READ_CONFIGURATION, READ_STATUS, READ_THRESHOLDS, WRITE_CONFIGURATION, WRITE_STATUS,
-    WRITE_THRESHOLDS,
-};
+use super::control::every_single_bit;
+use super::flaws::{offending, together, Attempt, Flaws};
+use super::shapes::{one_of_each, shelf, some_of_each};
+use super::threshold_out::{out_of_order, set_one_not_had};
+use crate::cases::malformed_block;
+use crate::limits::{CONFIGURATION_BYTES, HIGHEST_CODE, STATUS_BYTES, THRESHOLDS_BYTES, TYPES_AT};
+use crate::pages::calls::{Call, READ_STATUS, READ_THRESHOLDS, WRITE_STATUS, WRITE_THRESHOLDS};
 use crate::record::{Configuration, Kind, Shelf};
 use crate::rng::Rng;
 use crate::shown::Place;
+use std::iter::zip;
 
 pub fn offer_all(rng: &mut Rng, offer: Offer) {
-    for reader in [&CONFIGURATION, &STATUS, &THRESHOLDS] {
-        for _ in 0..8_000 {
-            let inputs = reader.changed(rng);
-            offer(reader.case(rng, inputs));
+    for reader in [&STATUS, &THRESHOLDS] {
+        reader.offer_spoiled(rng, offer);
+    }
+    for kind in Kind::ALL {
+        for _ in 0..3 {
+            every_nameless_bit(rng, kind, offer);
         }
-        reader.every_value_of_every_byte(rng, offer);
-        reader.every_length(rng, offer);
+        for _ in 0..30 {
+            every_code_too_high(rng, kind, offer);
+        }
     }
-    for _ in 0..5_000 {
-        let page = configuration_page_of_parts(rng);
-        offer(CONFIGURATION.case(rng, vec![page]));
-    }
-    longest_configuration_pages(rng, offer);
     threshold_quadruples(rng, offer);
 }
 
 /// A reader with a maker of what it accepts: an optional configuration, and the page.
-struct Reader {
-    call: &'static Call,
-    code: u8,
-    record_bytes: usize,
-    accepted: fn(&mut Rng, &Shelf) -> Vec<Vec<u8>>,
+pub struct Reader {
+    pub call: &'static Call,
+    pub code: u8,
+    pub record_bytes: usize,
+    pub accepted: fn(&mut Rng, &Shelf) -> Vec<Vec<u8>>,
+    /// The reasons for its refusals, 6 first.
+    pub flaws: Flaws,
 }
-
-static CONFIGURATION: Reader = Reader {
-    call: &READ_CONFIGURATION,
-    code: 0x01,
-    record_bytes: CONFIGURATION_BYTES,
-    accepted: |_, shelf| vec![page_written(&WRITE_CONFIGURATION, &[shelf.block()])],
-};
 
 static STATUS: Reader = Reader {
     call: &READ_STATUS,
     code: 0x02,
     record_bytes: STATUS_BYTES,
     accepted: accepted_status,
+    flaws: &[(6, status_not_allowed)],
 };
 
 static THRESHOLDS: Reader = Reader {
@@ -64,7 +55,20 @@ static THRESHOLDS: Reader = Reader {
     code: 0x05,
     record_bytes: THRESHOLDS_BYTES,
     accepted: accepted_thresholds,
+    flaws: &[
+        (6, overall_threshold),
+        (7, threshold_not_had),
+        (8, out_of_order),
+    ],
 };
+
+pub fn offending_status(rng: &mut Rng) -> Case {
+    STATUS.offending(rng)
+}
+
+pub fn offending_thresholds(rng: &mut Rng) -> Case {
+    THRESHOLDS.offending(rng)
+}
 
 pub fn accepted_status(rng: &mut Rng, shelf: &Shelf) -> Vec<Vec<u8>> {
     let mut page = page_written(&WRITE_STATUS, &[shelf.block()]);
@@ -81,7 +85,37 @@ pub fn accepted_thresholds(_: &mut Rng, shelf: &Shelf) -> Vec<Vec<u8>> {
 }
 
 impl Reader {
-    fn case(&self, rng: &mut Rng, inputs: Vec<Vec<u8>>) -> Case {
+    pub fn offer_spoiled(&self, rng: &mut Rng, offer: Offer) {
+        for _ in 0..8_000 {
+            let inputs = self.changed(rng);
+            offer(self.case(rng, inputs));
+        }
+        for _ in 0..10 {
+            let attempt = |rng: &mut Rng| {
+                let shelf = some_of_each(rng);
+                self.attempt(rng, shelf)
+            };
+            together(rng, self.flaws, attempt, offer);
+        }
+        self.every_value_of_every_byte(rng, offer);
+        self.every_length(rng, offer);
+    }
+
+    /// A page with one to four offending bytes.
+    pub fn offending(&self, rng: &mut Rng) -> Case {
+        let shelf = shelf(rng);
+        let attempt = self.attempt(rng, shelf);
+        offending(rng, self.flaws, attempt)
+    }
+
+    /// What is accepted.
+    fn attempt(&self, rng: &mut Rng, shelf: Shelf) -> Attempt {
+        let inputs = (self.accepted)(rng, &shelf);
+        let case = self.case(rng, inputs);
+        Attempt { shelf, case }
+    }
+
+    pub fn case(&self, rng: &mut Rng, inputs: Vec<Vec<u8>>) -> Case {
         Case {
             call: self.call,
             inputs,
@@ -193,96 +227,101 @@ fn named_bits(place: Place) -> [u8; 4] {
     }
 }
 
-/// A configuration page put together from headers of any content, mostly of the length they need.
-fn configuration_page_of_parts(rng: &mut Rng) -> Vec<u8> {
-    let types = match rng.range(0, 9) {
-        0 => rng.pick(&[0, MOST_TYPES + 1, 254, 255]),
-        1 => rng.range(0, 255),
-        _ => rng.range(1, MOST_TYPES),
-    };
-    let flawed = rng.one_in(2);
-    let mut headers = Vec::new();
-    for count in counts(rng, types) {
-        let mut header = header(rng, count);
-        if flawed && rng.one_in(4) {
-            spoil_header(rng, &mut header);
-        }
-        headers.push(header);
+fn place_of(slot: Slot) -> Place {
+    if slot.overall {
+        Place::Overall
+    } else {
+        Place::Individual(slot.kind)
     }
-    let mut page = configuration_page_of(rng, &headers);
-    if flawed && rng.one_in(3) {
-        let at = rng.range(40, page.len() + 40);
-        let value = rng.pick(&[
-            0x00,
-            FIRST_LETTER - 1,
-            FIRST_LETTER,
-            LAST_LETTER,
-            LAST_LETTER + 1,
-            0x80,
-            0xFF,
-        ]);
-        set(&mut page, at, value);
-    }
+}
+
+/// A bit of page byte 1 beside NON-CRIT and CRIT, or a code too high or a bit without a name in an element.
+fn status_not_allowed(attempt: &mut Attempt, rng: &mut Rng) {
     if rng.one_in(8) {
-        change(&mut page, rng);
+        attempt.page()[1] |= rng.pick(&[0x01, 0x08, 0x10, 0x20, 0x40, 0x80]);
+        return;
     }
-    page
+    let slot = rng.pick(&slots(&attempt.shelf));
+    if rng.one_in(3) {
+        let code = rng.pick(&CODES_TOO_HIGH);
+        set_code(attempt.page(), slot, code);
+    } else {
+        let bit = rng.pick(&nameless_bits(place_of(slot)));
+        set_bit(attempt.page(), slot, bit);
+    }
 }
 
-fn header(rng: &mut Rng, count: u8) -> [u8; 4] {
-    let any_length = rng.range(0, MOST_TEXT);
-    let length = rng.pick(&[0, 1, MOST_TEXT - 1, MOST_TEXT, any_length]);
-    [rng.pick(&Kind::ALL).code(), count, 0, length as u8]
+const CODES_TOO_HIGH: [u8; 7] = [9, 10, 11, 12, 13, 14, 15];
+
+/// Each bit that an element may not have, whatever its code.
+fn nameless_bits(place: Place) -> Vec<u32> {
+    let [byte0, byte1, byte2, byte3] = named_bits(place);
+    let named = u32::from_be_bytes([byte0 | 0x0F, byte1, byte2, byte3]);
+    every_single_bit().filter(|bit| named & bit == 0).collect()
 }
 
-fn spoil_header(rng: &mut Rng, header: &mut [u8; 4]) {
-    let any = rng.byte();
-    let (text, elements) = (MOST_TEXT + 1, MOST_OF_TYPE + 1);
-    header[rng.range(0, 3)] = rng.pick(&[0x00, text as u8, elements as u8, 0xFF, any]);
+fn set_code(page: &mut [u8], slot: Slot, code: u8) {
+    page[slot.at] = page[slot.at] & 0xF0 | code;
 }
 
-/// How many elements each type has: often as many as may be in all, or just one more, or far too many.
-fn counts(rng: &mut Rng, types: usize) -> Vec<u8> {
-    let full = equal_share(MOST_TYPES);
-    let alike = rng.pick(&[0, 1, full, full + 1, equal_share(2), equal_share(1), 255]);
-    let mut counts = vec![alike as u8; types];
-    if rng.one_in(2) && types > 0 {
-        counts.fill(0);
-        let most = MOST_ELEMENTS;
-        for _ in 0..rng.pick(&[most - 1, most, most, most + 1, most + 2]) {
-            let count = &mut counts[rng.range(0, types - 1)];
-            *count = count.saturating_add(1);
+fn set_bit(page: &mut [u8], slot: Slot, bit: u32) {
+    for (byte, set) in zip(&mut page[slot.at..], bit.to_be_bytes()) {
+        *byte |= set;
+    }
+}
+
+/// Each bit without a name in each element of a type.
+fn every_nameless_bit(rng: &mut Rng, kind: Kind, offer: Offer) {
+    for aim in AIMS {
+        let (_, slot) = aimed(rng, kind, aim);
+        for bit in nameless_bits(place_of(slot)) {
+            let byte = bit.leading_zeros() as usize / 8;
+            let set = |page: &mut [u8], slot: Slot| set_bit(page, slot, bit);
+            offer(offending_at(rng, kind, aim, byte, set));
         }
     }
-    counts
 }
 
-fn configuration_page_of(rng: &mut Rng, headers: &[[u8; 4]]) -> Vec<u8> {
-    let mut page = vec![0x01, 0, 0, 0];
-    page.extend(rng.bytes(4));
-    page.extend([0x11, 0x00, headers.len() as u8, 0x24]);
-    page.extend(rng.bytes(36));
-    page.extend(headers.concat());
-    for [_, _, _, text_length] in headers {
-        page.extend(text(rng, usize::from(*text_length)));
+fn every_code_too_high(rng: &mut Rng, kind: Kind, offer: Offer) {
+    for aim in AIMS {
+        for code in CODES_TOO_HIGH {
+            let set = |page: &mut [u8], slot: Slot| set_code(page, slot, code);
+            offer(offending_at(rng, kind, aim, 0, set));
+        }
     }
-    say_own_length(&mut page);
-    page
 }
 
-/// As long as a page can be, a byte more or less, and 255 texts of 255 letters.
-fn longest_configuration_pages(rng: &mut Rng, offer: Offer) {
-    let letters = LONGEST_SAID - configuration_page_bytes(255, 0);
-    for total in [letters - 1, letters, letters + 1, 255 * 255] {
-        let headers: Vec<[u8; 4]> = (0..255)
-            .map(|place| {
-                let length = total * (place + 1) / 255 - total * place / 255;
-                [Kind::Cooling.code(), 0, 0, length as u8]
-            })
-            .collect();
-        let page = configuration_page_of(rng, &headers);
-        offer(CONFIGURATION.case(rng, vec![page]));
+/// A status page that is accepted but for this byte of the element aimed at.
+fn offending_at(
+    rng: &mut Rng,
+    kind: Kind,
+    aim: (usize, usize),
+    byte: usize,
+    spoil: impl Fn(&mut [u8], Slot),
+) -> Case {
+    let (shelf, slot) = aimed(rng, kind, aim);
+    let mut inputs = accepted_status(rng, &shelf);
+    spoil(inputs.last_mut().expect("a page"), slot);
+    let case = STATUS.case(rng, inputs);
+    let expected = (6, slot.at + byte);
+    assert_eq!(case.number_and_offset(), expected, "{kind:?}, {aim:?}");
+    case
+}
+
+/// Page byte 1, or a byte of an overall element.
+fn overall_threshold(attempt: &mut Attempt, rng: &mut Rng) {
+    let mut zeros = vec![1];
+    for slot in slots(&attempt.shelf).iter().filter(|slot| slot.overall) {
+        zeros.extend(slot.at..slot.at + 4);
     }
+    attempt.page()[rng.pick(&zeros)] = rng.nonzero_byte();
+}
+
+/// In an individual element.
+fn threshold_not_had(attempt: &mut Attempt, rng: &mut Rng) {
+    let mut slots = slots(&attempt.shelf);
+    slots.retain(|slot| !slot.overall);
+    set_one_not_had(attempt, rng, &slots);
 }
 
 /// Each element of a threshold page in turn.

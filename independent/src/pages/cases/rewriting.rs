@@ -81,7 +81,7 @@ impl Rewriter {
         let inputs = (self.accepted_page)(rng, shelf);
         let before = rng.bytes(self.record_bytes);
         let answer = self.reader.answer(&inputs, &before);
-        [shelf.configuration().block(), answer.bytes[1..].to_vec()]
+        [shelf.configuration().block(), answer.record().to_vec()]
     }
 
     fn changed(&self, rng: &mut Rng) -> Vec<Vec<u8>> {

@@ -1,8 +1,9 @@
 //! Threshold Out pages.
 
-use super::acting::{aimed, put, slots, Actor, Attempt, Chance, Slot, AIMS};
+use super::acting::{aimed, put, slots, Actor, Chance, Slot, AIMS};
 use super::case::{Case, Offer};
 use super::changes::with_every_quadruple;
+use super::flaws::Attempt;
 use super::shapes::{between_two, one_of_each, shelf};
 use crate::cases::{element, group, one_type, shelf_of};
 use crate::pages::calls::APPLY_THRESHOLDS;
@@ -15,7 +16,7 @@ static THRESHOLD_OUT: Actor = Actor {
     call: &APPLY_THRESHOLDS,
     code: 0x05,
     accepted: accepted_page,
-    flaws: &[byte1_set, threshold_not_had, out_of_order],
+    flaws: &[(6, byte1_set), (7, threshold_not_had), (8, out_of_order)],
 };
 
 pub fn offer_all(rng: &mut Rng, offer: Offer) {
@@ -38,6 +39,10 @@ pub fn offer_all(rng: &mut Rng, offer: Offer) {
         offer(as_stored(rng));
     }
     every_quadruple(rng, offer);
+}
+
+pub fn offending(rng: &mut Rng) -> Case {
+    THRESHOLD_OUT.offending(rng)
 }
 
 /// Two bytes of a type that have an order: where the one stands that is at least the other.
@@ -150,26 +155,30 @@ fn page_of(shelf: &Shelf, elements: &[[u8; 4]]) -> Vec<u8> {
 }
 
 fn byte1_set(attempt: &mut Attempt, rng: &mut Rng) {
-    attempt.page[1] = rng.nonzero_byte();
+    attempt.page()[1] = rng.nonzero_byte();
 }
 
 fn threshold_not_had(attempt: &mut Attempt, rng: &mut Rng) {
-    let lacking = |slot: &Slot| had(slot.kind) < 4;
-    let slots: Vec<Slot> = slots(&attempt.shelf).into_iter().filter(lacking).collect();
-    let slot = rng.pick(&slots);
+    set_one_not_had(attempt, rng, &slots(&attempt.shelf));
+}
+
+/// In one of these elements.
+pub fn set_one_not_had(attempt: &mut Attempt, rng: &mut Rng, slots: &[Slot]) {
+    let lacking = slots.iter().filter(|slot| had(slot.kind) < 4);
+    let slot = rng.pick(&lacking.copied().collect::<Vec<Slot>>());
     let at = slot.at + rng.range(had(slot.kind), 3);
-    attempt.page[at] = rng.nonzero_byte();
+    attempt.page()[at] = rng.nonzero_byte();
 }
 
 /// An individual element whose own two bytes are out of order.
-fn out_of_order(attempt: &mut Attempt, rng: &mut Rng) {
+pub fn out_of_order(attempt: &mut Attempt, rng: &mut Rng) {
     let pair = rng.pick(&PAIRS);
     let of_pair = |slot: &Slot| slot.kind == pair.kind && !slot.overall;
     let slots: Vec<Slot> = slots(&attempt.shelf).into_iter().filter(of_pair).collect();
     let slot = rng.pick(&slots);
     let smaller = rng.range(1, 254);
-    attempt.page[slot.at + pair.above] = smaller as u8;
-    attempt.page[slot.at + pair.below] = rng.range(smaller + 1, 255) as u8;
+    attempt.page()[slot.at + pair.above] = smaller as u8;
+    attempt.page()[slot.at + pair.below] = rng.range(smaller + 1, 255) as u8;
 }
 
 /// Individual, overall and stored bytes are each zero, one number or the next, for both bytes of the pair.

@@ -11,7 +11,7 @@ pick false a b = b
 unfoldable pub firstOf : Bool → Bool → Bool → Bool → ℕ
 firstOf a b c d = pick a (pick b (pick c (pick d 4 3) 2) 1) 0
 
--- the first of four bytes at which the test f fails, 4 if it passes at all
+-- the first of four bytes at which the test f fails, 4 if it passes at each
 abbrev pub firstOfFour : (ℕ → Bool) → ℕ
 firstOfFour f = firstOf (f 0) (f 1) (f 2) (f 3)
 

@@ -2,12 +2,13 @@
  *
  * A shelf is one block of bytes that the caller owns (docs/LAYOUT.md). The library keeps no state and
  * allocates nothing. Every call takes whatever bytes it is given and answers with a refusal number, 0 if
- * it accepted. A refused call leaves every lent byte as it was, but for `written`, `selects` and `offset`,
- * which it sets: the first two to 0; `offset` to the place on the page, counted from 0, of the first byte
- * that is not allowed if the answer is 6 (SES_NOT_ALLOWED), else to 0, as after acceptance. Byte 0 is never
- * that byte. No call has to be preceded by a check, but for what C's types cannot say: a pointer is to as
- * many bytes as its length or its type says, and is not NULL, also where the length is 0; and what one
- * call is lent does not overlap.
+ * it accepted. A refused call leaves every lent byte as it was, but for `written`, `selects`, `element` and
+ * `offset`, which it sets: the first two to 0; `element` to SES_NO_ELEMENT; `offset` to the place on the
+ * page, counted from 0, of the first byte that is not allowed if the answer is 6 (SES_NOT_ALLOWED), else to
+ * 0, as after acceptance. Byte 0 is never that byte. Only calls that are given a page have an `offset`: what
+ * is not allowed in a record or in a text is told by the number alone. No call has to be preceded by a
+ * check, but for what C's types cannot say: a pointer is to as many bytes as its length or its type says,
+ * and is not NULL, also where the length is 0; and what one call is lent does not overlap.
  *
  * Link with libses.a (`rt staticlib ses`, x86-64).
  */
@@ -34,7 +35,8 @@ enum ses_refusal {
     SES_WANTED_LIST = 9,
     SES_UNREACHABLE = 10,
     SES_OUTPUT_TOO_SHORT = 11,
-    SES_NEEDED_LENGTH = 12
+    SES_NEEDED_LENGTH = 12,
+    SES_NO_SUCH_ELEMENT = 15
 };
 
 /* What a refusal number means, in a few words. */
@@ -53,13 +55,14 @@ static inline const char *ses_meaning(uint8_t number)
     case SES_WANTED_LIST: return "the list does not fit the shelf's elements";
     case SES_UNREACHABLE: return "no valid control page reaches the wanted settings";
     case SES_OUTPUT_TOO_SHORT: return "the output buffer is shorter than the page";
-    case SES_NEEDED_LENGTH: return "the types need another length than the page has";
+    case SES_NEEDED_LENGTH: return "the page needs another length than it has";
+    case SES_NO_SUCH_ELEMENT: return "a number past the last element";
     default: return "no refusal has this number";
     }
 }
 
-/* The most that a shelf has: types, elements in all, bytes of a type's text, and slots of a page, one for each
- * type (its overall element) and one for each element. */
+/* The most that a shelf has: types, elements in all, bytes of a type's text or of a name, and slots of a page,
+ * one for each type (its overall element) and one for each element. */
 #define SES_MOST_TYPES 8
 #define SES_MOST_ELEMENTS 64
 #define SES_MOST_TEXT 32
@@ -73,12 +76,25 @@ static inline const char *ses_meaning(uint8_t number)
 #define SES_FIRST_ELEMENT SES_CONFIGURATION_LENGTH
 #define SES_ELEMENT_LENGTH 16
 #define SES_SETTINGS_LENGTH 4
-#define SES_LONGEST_BLOCK (SES_FIRST_ELEMENT + SES_ELEMENT_LENGTH * SES_MOST_ELEMENTS)
 #define SES_LONGEST_WANTED_LIST (SES_SETTINGS_LENGTH * SES_MOST_ELEMENTS)
 
-/* A status, control or threshold page (02h, 05h); and a configuration page (01h), which may be longer. */
+/* Behind the last element the names, one for each slot of a page and in that order: for each type that of its
+ * overall element, then those of its elements. Any bytes are a name: it ends at the first that is not
+ * printable (20h to 7Eh), or after 32. A call that puts a name fills up with zeros; behind one of 32 bytes
+ * there is none, so it is no string of C's. The block ends with the last name. */
+#define SES_NAME_LENGTH SES_MOST_TEXT
+#define SES_FIRST_NAME(elements) (SES_FIRST_ELEMENT + SES_ELEMENT_LENGTH * (elements))
+#define SES_BLOCK_LENGTH(types, elements) (SES_FIRST_NAME(elements) + SES_NAME_LENGTH * ((types) + (elements)))
+#define SES_LONGEST_BLOCK SES_BLOCK_LENGTH(SES_MOST_TYPES, SES_MOST_ELEMENTS)
+
+/* A status, control or threshold page (02h, 05h); and a configuration page (01h) and an element descriptor
+ * page (07h), which may be longer. */
 #define SES_LONGEST_SLOT_PAGE (8 + 4 * SES_MOST_SLOTS)
 #define SES_LONGEST_CONFIGURATION_PAGE (48 + (4 + SES_MOST_TEXT) * SES_MOST_TYPES)
+#define SES_LONGEST_DESCRIPTOR_PAGE (8 + (4 + SES_NAME_LENGTH) * SES_MOST_SLOTS)
+
+/* The number that tells of no element. */
+#define SES_NO_ELEMENT 0xFFFFFFFF
 
 /* What a status element shows, field by field. An entry has four bytes that all types have and twelve that
  * its type lays out: the fields of bytes 1 to 3 of the element in page order, then zeros. Flags are 0 or 1; a
@@ -131,17 +147,32 @@ struct ses_thresholds {
     struct ses_limits entry[SES_MOST_SLOTS];
 };
 
+/* A name with zeros behind it; of 32 bytes it has none. Written again, a byte that is not printable is not
+ * allowed (6), unless it and all behind it are zero. */
+struct ses_name {
+    uint8_t text[SES_NAME_LENGTH];
+};
+
+/* An element descriptor page, its entries in the same order: the names of the overall elements among them. */
+struct ses_names {
+    uint8_t spare[2];
+    uint8_t entries[2];
+    struct ses_name entry[SES_MOST_SLOTS];
+};
+
 /* Is the block a well-formed shelf?  0, or 1 (SES_SHELF_NOT_WELL_FORMED). */
 uint8_t ses_check(const uint8_t *shelf, size_t shelf_length);
 
-/* Write a page of the shelf: configuration (01h), status (02h), threshold status (05h).
- * Refusals 1, 11. `written` gets the bytes written, 0 if refused; output after the page is kept. */
+/* Write a page of the shelf: configuration (01h), status (02h), threshold status (05h), element descriptor
+ * (07h).  Refusals 1, 11. `written` gets the bytes written, 0 if refused; output after the page is kept. */
 uint8_t ses_write_configuration(const uint8_t *shelf, size_t shelf_length,
                                 uint8_t *out, size_t out_length, uint32_t *written);
 uint8_t ses_write_status(const uint8_t *shelf, size_t shelf_length,
                          uint8_t *out, size_t out_length, uint32_t *written);
 uint8_t ses_write_thresholds(const uint8_t *shelf, size_t shelf_length,
                              uint8_t *out, size_t out_length, uint32_t *written);
+uint8_t ses_write_descriptors(const uint8_t *shelf, size_t shelf_length,
+                              uint8_t *out, size_t out_length, uint32_t *written);
 
 /* Read a configuration page.  Refusals 2, 3, 4, 12, 6, in this order. With 6 `offset` tells the first byte in
  * page order that is not allowed: fixed part, headers, texts. Too many elements in all are told at the count
@@ -158,8 +189,18 @@ uint8_t ses_read_thresholds(const uint8_t *configuration, size_t configuration_l
                             const uint8_t *page, size_t page_length, struct ses_thresholds *record,
                             uint32_t *offset);
 
-/* Write again what a reader handed back.  Refusals 1, 11; for status 1, 9, 6, 11; for thresholds 1, 9, 6,
- * 7, 8, 11, each in this order. What a record holds after its last entry, and `spare`, is not looked at. */
+/* Read an element descriptor page in the same way. It has for each slot a descriptor: two zero bytes, the
+ * length of the text in two bytes, and the text.  Refusals 1, 2, 3, 4, 12, 5, 6, in this order. It is 12 unless
+ * the last descriptor ends where the page ends, whatever lengths they declare. With 6 `offset` tells the
+ * first byte that is not allowed: byte 1, one of the two zero bytes, the first byte of a length above 32, or
+ * a byte of a text that is not printable (20h to 7Eh). */
+uint8_t ses_read_descriptors(const uint8_t *configuration, size_t configuration_length,
+                             const uint8_t *page, size_t page_length, struct ses_names *record,
+                             uint32_t *offset);
+
+/* Write again what a reader handed back.  Refusals 1, 11; for status and descriptors 1, 9, 6, 11; for
+ * thresholds 1, 9, 6, 7, 8, 11, each in this order. What a record holds after its last entry, and `spare`, is
+ * not looked at. */
 uint8_t ses_rewrite_configuration(const uint8_t *configuration, size_t configuration_length,
                                   uint8_t *out, size_t out_length, uint32_t *written);
 uint8_t ses_rewrite_status(const uint8_t *configuration, size_t configuration_length,
@@ -168,6 +209,9 @@ uint8_t ses_rewrite_status(const uint8_t *configuration, size_t configuration_le
 uint8_t ses_rewrite_thresholds(const uint8_t *configuration, size_t configuration_length,
                                const struct ses_thresholds *record,
                                uint8_t *out, size_t out_length, uint32_t *written);
+uint8_t ses_rewrite_descriptors(const uint8_t *configuration, size_t configuration_length,
+                                const struct ses_names *record,
+                                uint8_t *out, size_t out_length, uint32_t *written);
 
 /* Apply an enclosure control page (02h) to the shelf.  Refusals 1, 2, 3, 4, 12, 5, 6, in this order. With 6
  * `offset` tells the first byte with a reserved bit: byte 1, or one of an element with SELECT.
@@ -195,6 +239,22 @@ uint8_t ses_build_control(const uint8_t *shelf, size_t shelf_length,
                           const uint8_t *wanted, size_t wanted_length,
                           uint8_t *out, size_t out_length,
                           uint32_t *written, uint32_t *selects);
+
+/* Find the element whose name is this text, in length and every byte.  Refusal 1. `element` gets the number of
+ * the first, counted from 0 through all types, or SES_NO_ELEMENT if none has the name or the call is refused.
+ * Names of overall elements are not searched. An empty text finds the first empty name; one that is no name,
+ * longer than 32 bytes or not printable, finds nothing. */
+uint8_t ses_find_name(const uint8_t *shelf, size_t shelf_length, const uint8_t *text, size_t text_length,
+                      uint32_t *element);
+
+/* Set the name of an element, counted from 0 through all types; or of the overall element of a type, counted
+ * from 0.  Refusals 1, 15 (a number that the shelf has not), 6 (a text longer than 32 bytes, or with a byte
+ * that is not printable), in this order. The 32 bytes of this name become the text and zeros behind it;
+ * nothing else of the block changes. */
+uint8_t ses_set_name(uint8_t *shelf, size_t shelf_length, uint32_t element,
+                     const uint8_t *text, size_t text_length);
+uint8_t ses_set_overall_name(uint8_t *shelf, size_t shelf_length, uint32_t type,
+                             const uint8_t *text, size_t text_length);
 
 #ifdef __cplusplus
 }

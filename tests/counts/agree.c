@@ -1,14 +1,15 @@
-/* agree ROUNDS: every call on random shelves, pages, records and wishes, good and spoilt, by the library and by plain C. Both
- * get the same memory and must leave the same: answers, lengths, offsets and every lent byte. Each answer that a call can give
- * must come up, each byte of a page must be told as the first offending one and each byte of a status record's entry be the
- * reason of a refusal, if they can. The random numbers are the same in every run. */
+/* agree ROUNDS: every call on random shelves, pages, records, wishes and names, good and spoilt, by the library and by plain C.
+ * Both get the same memory and must leave the same: answers, lengths, offsets, elements found and every lent byte. Each answer that
+ * a call can give must come up, each byte of a page must be told as the first offending one and each byte of a record's entry be
+ * the reason of a refusal, and texts of each kind be found and not be found, if they can. The random numbers are the same in every
+ * run. */
 #include "plain.h"
 
 #include <stdio.h>
 #include <stdlib.h>
 #include <string.h>
 
-enum { ROOM = 1600, OUT_ROOM = 400 };
+enum { ROOM = 4000, OUT_ROOM = 400, DESCRIPTORS_ROOM = 2700, TEXT_ROOM = 100 };
 enum { COOLING = 0x03, TEMPERATURE = 0x04, VOLTAGE = 0x12, CURRENT = 0x13 };
 
 /* All memory that a call may be lent, and its answer. */
@@ -16,7 +17,9 @@ struct lent {
     uint8_t shelf[ROOM], configuration[ROOM], page[ROOM], wanted[ROOM], out[ROOM], told[SES_CONFIGURATION_LENGTH];
     struct ses_status status;
     struct ses_thresholds thresholds;
-    uint32_t written, selects, offset, answer;
+    struct ses_names names;
+    uint8_t text[TEXT_ROOM];
+    uint32_t written, selects, offset, element, answer;
 };
 
 static const struct {
@@ -25,7 +28,8 @@ static const struct {
 } parts[] = {
 #define PART(name) {#name, offsetof(struct lent, name), sizeof((struct lent *)0)->name}
     PART(shelf), PART(configuration), PART(page), PART(wanted), PART(out), PART(told),
-    PART(status), PART(thresholds), PART(written), PART(selects), PART(offset), PART(answer),
+    PART(status), PART(thresholds), PART(names), PART(text),
+    PART(written), PART(selects), PART(offset), PART(element), PART(answer),
 };
 
 enum call {
@@ -33,20 +37,23 @@ enum call {
     WRITE_CONFIGURATION, READ_CONFIGURATION, REWRITE_CONFIGURATION,
     WRITE_STATUS, READ_STATUS, REWRITE_STATUS,
     WRITE_THRESHOLDS, READ_THRESHOLDS, REWRITE_THRESHOLDS,
+    WRITE_DESCRIPTORS, READ_DESCRIPTORS, REWRITE_DESCRIPTORS,
     APPLY_CONTROL, APPLY_THRESHOLDS, BUILD_CONTROL,
+    FIND_NAME, SET_NAME, SET_OVERALL_NAME,
     CALLS
 };
 
-enum { ANSWERS = 13 };
+enum { ANSWERS = 16 };
 
-/* Where on a page the byte stands that a refusal tells by its offset. All bytes of the texts count as one. So does what is told
- * behind a byte that was told before and mended. */
-enum region { FIXED_PART, HEADER, TEXTS, OVERALL, INDIVIDUAL, BEHIND, REGIONS };
+/* Where on a page the byte stands that a refusal tells by its offset. All bytes of a configuration's texts count as one. So does
+ * what is told behind a byte that was told before and mended. */
+enum region { FIXED_PART, HEADER, TEXTS, OVERALL, INDIVIDUAL, DESCRIPTOR, BEHIND, REGIONS };
 
 enum { LONGEST_REGION = 48 };
 
 static const char *const regions[REGIONS] = {
-    "the fixed part", "a header", "the texts", "an overall element", "an individual element", "what is behind a mended byte",
+    "the fixed part", "a header", "the texts", "an overall element", "an individual element", "a descriptor",
+    "what is behind a mended byte",
 };
 
 /* The calls with the refusals that each can give, and with the bytes that it can tell, a bit for each. */
@@ -69,10 +76,18 @@ static const struct {
     [READ_THRESHOLDS] = {"read_thresholds", {1, 2, 3, 4, 12, 5, 6, 7, 8},
                          {[FIXED_PART] = 0x2, [OVERALL] = 0xF, [BEHIND] = 1}},
     [REWRITE_THRESHOLDS] = {"rewrite_thresholds", {1, 6, 7, 8, 9, 11}, {0}},
+    [WRITE_DESCRIPTORS] = {"write_descriptors", {1, 11}, {0}},
+    /* Of a descriptor not the second byte of the length, and 32 bytes of text. */
+    [READ_DESCRIPTORS] = {"read_descriptors", {1, 2, 3, 4, 12, 5, 6},
+                          {[FIXED_PART] = 0x2, [DESCRIPTOR] = 0xFFFFFFFF7, [BEHIND] = 1}},
+    [REWRITE_DESCRIPTORS] = {"rewrite_descriptors", {1, 6, 9, 11}, {0}},
     [APPLY_CONTROL] = {"apply_control", {1, 2, 3, 4, 12, 5, 6},
                        {[FIXED_PART] = 0x2, [OVERALL] = 0xF, [INDIVIDUAL] = 0xF, [BEHIND] = 1}},
     [APPLY_THRESHOLDS] = {"apply_thresholds", {1, 2, 3, 4, 12, 5, 6, 7, 8}, {[FIXED_PART] = 0x2}},
     [BUILD_CONTROL] = {"build_control", {1, 9, 10, 11}, {0}},
+    [FIND_NAME] = {"find_name", {1}, {0}},
+    [SET_NAME] = {"set_name", {1, 15, 6}, {0}},
+    [SET_OVERALL_NAME] = {"set_overall_name", {1, 15, 6}, {0}},
 };
 
 static unsigned given[CALLS][ANSWERS], told_at[CALLS][REGIONS][LONGEST_REGION];
@@ -96,9 +111,33 @@ static const struct {
 
 static unsigned refused_for[SORTS][ENTRY_LENGTH];
 
+/* The same for a record of names, whose entries are all of one sort. */
+static unsigned name_refused_for[SES_NAME_LENGTH];
+
+/* The texts to find, by how they come from the names of a shelf, and whether a name can be equal to one. How often each was not
+ * found, and found. */
+enum kind { OF_ELEMENT, OF_OVERALL, SHORTER, LONGER, CHANGED, NO_BYTES, TOO_LONG, NOT_PRINTABLE, KINDS };
+
+static const struct {
+    const char *name;
+    int can_be_found;
+} kinds[KINDS] = {
+    [OF_ELEMENT] = {"an element's name", 1},
+    [OF_OVERALL] = {"an overall element's name", 1},
+    [SHORTER] = {"a name without its last byte", 1},
+    [LONGER] = {"a name and one byte more", 1},
+    [CHANGED] = {"a name with another byte", 1},
+    [NO_BYTES] = {"the empty text", 1},
+    [TOO_LONG] = {"a name and what stands behind its 32 bytes", 0},
+    [NOT_PRINTABLE] = {"a name with a byte that is not printable", 0},
+};
+
+static unsigned found[KINDS][2];
+
 /* What both sides start from, and what each left. */
 static struct lent start, library, plain;
-static size_t shelf_length, configuration_length, page_length, wanted_length, out_length;
+static size_t shelf_length, configuration_length, page_length, wanted_length, out_length, text_length;
+static uint32_t number;
 static long round_number;
 
 /* The shelf and the page before they were spoilt. */
@@ -193,6 +232,40 @@ static unsigned make_type(uint8_t *type, unsigned room)
     return type[1];
 }
 
+/* Bytes at which a name ends. */
+static uint8_t not_printable(void)
+{
+    static const uint8_t bytes[] = {0x00, 0x01, 0x1F, 0x7F, 0x80, 0xA0, 0xFF};
+    return bytes[below(sizeof bytes)];
+}
+
+static uint8_t printable(void)
+{
+    return (uint8_t)(0x20 + below(0x5F));
+}
+
+/* Mostly short and of few letters, so that equal ones are frequent. Behind its end are zeros, or any bytes. */
+static void make_name(uint8_t *name)
+{
+    unsigned few = !one_in(3), length = few && !one_in(4) ? below(4) : one_in(3) ? SES_NAME_LENGTH : below(SES_NAME_LENGTH + 1);
+    for (unsigned i = 0; i < length; i++)
+        name[i] = few ? (uint8_t)('a' + below(2)) : printable();
+    if (length < SES_NAME_LENGTH && one_in(4)) {
+        name[length] = not_printable();
+        fill(name + length + 1, SES_NAME_LENGTH - length - 1);
+    }
+}
+
+static uint8_t *name_of_slot(uint8_t *shelf, unsigned slot)
+{
+    return shelf + SES_CONFIGURATION_LENGTH + 16 * elements + 32 * slot;
+}
+
+static size_t length_of_good(void)
+{
+    return SES_CONFIGURATION_LENGTH + 16 * elements + 32 * (good[40] + elements);
+}
+
 static void make_shelf(void)
 {
     memset(good, 0, sizeof good);
@@ -209,6 +282,8 @@ static void make_shelf(void)
             make_measures(element, type[0]);
         }
     }
+    for (unsigned slot = 0; slot < good[40] + elements; slot++)
+        make_name(name_of_slot(good, slot));
 }
 
 static uint8_t type_of(unsigned j)
@@ -249,14 +324,15 @@ static void pass_limit(void)
 static void lend_shelf(void)
 {
     fill(&start, sizeof start);
-    shelf_length = SES_CONFIGURATION_LENGTH + 16 * elements;
+    shelf_length = length_of_good();
     configuration_length = SES_CONFIGURATION_LENGTH;
     memcpy(start.shelf, good, shelf_length);
     memcpy(start.configuration, good, configuration_length);
     if (one_in(20) && elements > 0)
         pass_limit();
-    if (one_in(5))
-        spoil(start.shelf, &shelf_length, 80);
+    /* Most bytes of a shelf are those of its names, of which none is wrong. */
+    if (one_in(4))
+        spoil(start.shelf, &shelf_length, one_in(2) ? 80 : SES_CONFIGURATION_LENGTH + 16 * elements);
     if (one_in(5))
         spoil(start.configuration, &configuration_length, 80);
 }
@@ -288,9 +364,10 @@ static void differ(enum call call, size_t at)
 
 static void compare(enum call call)
 {
-    for (size_t at = 0; at < sizeof library; at++)
-        if (((uint8_t *)&library)[at] != ((uint8_t *)&plain)[at])
-            differ(call, at);
+    if (memcmp(&library, &plain, sizeof library) != 0)
+        for (size_t at = 0;; at++)
+            if (((uint8_t *)&library)[at] != ((uint8_t *)&plain)[at])
+                differ(call, at);
     if (library.answer >= ANSWERS) {
         fprintf(stderr, "agree: round %ld, %s: both answer %u\n", round_number, calls[call].name, library.answer);
         exit(1);
@@ -313,6 +390,7 @@ static void compare(enum call call)
 #define CONFIGURATION at->configuration, configuration_length
 #define PAGE at->page, page_length
 #define WANTED at->wanted, wanted_length
+#define TEXT at->text, text_length
 #define OUT at->out, out_length, &at->written
 
 /* The pages that tell. */
@@ -321,7 +399,7 @@ static void compare(enum call call)
 static void make_page(uint8_t (*write)(const uint8_t *, size_t, uint8_t *, size_t, uint32_t *))
 {
     uint32_t length;
-    write(good, SES_CONFIGURATION_LENGTH + 16 * elements, start.page, ROOM, &length);
+    write(good, length_of_good(), start.page, ROOM, &length);
     page_length = length;
 }
 
@@ -411,6 +489,18 @@ static void count_in_slots(enum call call, const uint8_t *front, uint32_t offset
         told_at[call][sort_of_entry(front, offset / 4 - 2) == 0 ? OVERALL : INDIVIDUAL][offset % 4]++;
 }
 
+static void count_in_descriptors(uint32_t offset)
+{
+    uint32_t start_of = 8, end;
+    if (offset < 8) {
+        told_at[READ_DESCRIPTORS][FIXED_PART][offset]++;
+        return;
+    }
+    while (end = start_of + 4 + start.page[start_of + 2] * 256u + start.page[start_of + 3], end <= offset)
+        start_of = end;
+    told_at[READ_DESCRIPTORS][DESCRIPTOR][offset - start_of]++;
+}
+
 /* Counts the byte of the page that the answer tells, if it tells one. If that byte was spoilt, it is mended, and the call has to
  * be made again; what offends then is not before it. It may be the same byte, since not every page is good before it is spoilt. */
 static int mend_told(enum call call, const uint8_t *front)
@@ -423,8 +513,10 @@ static int mend_told(enum call call, const uint8_t *front)
                 page_length, mended);
         exit(1);
     }
-    if (front == NULL)
+    if (call == READ_CONFIGURATION)
         count_in_configuration(offset);
+    else if (call == READ_DESCRIPTORS)
+        count_in_descriptors(offset);
     else
         count_in_slots(call, front, offset);
     told_at[call][BEHIND][0] += mended != 0 && offset > mended;
@@ -435,7 +527,7 @@ static int mend_told(enum call call, const uint8_t *front)
     return 1;
 }
 
-/* A call that tells the offset of a byte. The type list of its page is in `front`, NULL for a configuration page. */
+/* A call that tells the offset of a byte. The type list of a page with slots of four bytes is in `front`. */
 #define BOTH_TELL(number, name, front, ...)                                                                            \
     do                                                                                                                 \
         BOTH(number, name, __VA_ARGS__, &at->offset);                                                                  \
@@ -465,12 +557,16 @@ static int one_too_large(size_t at)
     return plain_rewrite_status(good, SES_CONFIGURATION_LENGTH, &less, page, sizeof page, &length) == SES_ACCEPTED;
 }
 
+static int own_configuration(void)
+{
+    return configuration_length == SES_CONFIGURATION_LENGTH &&
+           memcmp(start.configuration, good, SES_CONFIGURATION_LENGTH) == 0;
+}
+
 /* Counts a status record that was refused only for its byte `at`, which is not as the reader handed it back. */
 static void count_refused_byte(size_t at)
 {
-    int own_configuration = configuration_length == SES_CONFIGURATION_LENGTH &&
-                            memcmp(start.configuration, good, SES_CONFIGURATION_LENGTH) == 0;
-    if (at >= 4 && own_configuration && plain.answer == SES_NOT_ALLOWED && one_too_large(at))
+    if (at >= 4 && own_configuration() && plain.answer == SES_NOT_ALLOWED && one_too_large(at))
         refused_for[sort_of_entry(good, (at - 4) / ENTRY_LENGTH)][(at - 4) % ENTRY_LENGTH]++;
 }
 
@@ -517,6 +613,52 @@ static void compare_thresholds(void)
     start.thresholds = record;
     spoil_record(&start.thresholds, 4 + 4 * (good[40] + elements));
     BOTH(REWRITE_THRESHOLDS, rewrite_thresholds, CONFIGURATION, &at->thresholds, OUT);
+}
+
+/* Descriptors whose lengths are right for the page, though a text may be longer than a name, and any byte wrong. */
+static void make_odd_descriptors(void)
+{
+    unsigned slots = good[40] + elements, too_long = one_in(2) ? slots : below(slots);
+    uint8_t *descriptor = start.page + 8;
+    start.page[1] = (uint8_t)one_in(16);
+    for (unsigned i = 0; i < slots; i++) {
+        unsigned text = below(SES_NAME_LENGTH + 1);
+        if (i == too_long)
+            text = one_in(2) ? SES_NAME_LENGTH + 1 : 256 + below(48);
+        descriptor[0] = (uint8_t)one_in(100);
+        descriptor[1] = (uint8_t)one_in(descriptor[0] != 0 ? 2 : 100);
+        put2(descriptor + 2, text);
+        for (unsigned at = 0; at < text; at++)
+            descriptor[4 + at] = one_in(200) ? not_printable() : printable();
+        descriptor += 4 + text;
+    }
+    page_length = (size_t)(descriptor - start.page);
+    put_page_length();
+}
+
+/* A page that is written from the shelf or the record mostly has this length, and the output is about as long. */
+static void choose_out_length_for_page(void)
+{
+    out_length = one_in(4) ? page_length + below(3) - 1 : one_in(8) ? below(DESCRIPTORS_ROOM) : DESCRIPTORS_ROOM;
+}
+
+static void compare_descriptors(void)
+{
+    make_page(ses_write_descriptors);
+    choose_out_length_for_page();
+    BOTH(WRITE_DESCRIPTORS, write_descriptors, SHELF, OUT);
+    struct ses_names record = start.names;
+    uint32_t offset;
+    ses_read_descriptors(good, SES_CONFIGURATION_LENGTH, start.page, page_length, &record, &offset);
+    if (one_in(3))
+        make_odd_descriptors();
+    spoil_page();
+    BOTH_TELL(READ_DESCRIPTORS, read_descriptors, NULL, CONFIGURATION, PAGE, &at->names);
+    start.names = record;
+    size_t spoilt = spoil_record(&start.names, 4 + 32 * (good[40] + elements));
+    BOTH(REWRITE_DESCRIPTORS, rewrite_descriptors, CONFIGURATION, &at->names, OUT);
+    if (spoilt >= 4 && own_configuration() && plain.answer == SES_NOT_ALLOWED)
+        name_refused_for[(spoilt - 4) % SES_NAME_LENGTH]++;
 }
 
 /* The pages that act. */
@@ -588,6 +730,80 @@ static void compare_build(void)
     BOTH(BUILD_CONTROL, build_control, SHELF, WANTED, OUT, &at->selects);
 }
 
+/* Names found and set. */
+
+static unsigned name_length(const uint8_t *name)
+{
+    unsigned length = 0;
+    while (length < SES_NAME_LENGTH && name[length] >= 0x20 && name[length] <= 0x7E)
+        length++;
+    return length;
+}
+
+/* The slot of an element, or of an overall element if there is none. */
+static unsigned some_slot(int overall)
+{
+    unsigned t = below(good[40]), slot = t;
+    for (unsigned before = 0; before < t; before++)
+        slot += good[45 + 36 * before];
+    return overall || good[45 + 36 * t] == 0 ? slot : slot + 1 + below(good[45 + 36 * t]);
+}
+
+static void make_text(enum kind kind)
+{
+    const uint8_t *name = name_of_slot(good, some_slot(kind == OF_OVERALL));
+    size_t behind = (size_t)(good + length_of_good() - name);
+    text_length = name_length(name);
+    memcpy(start.text, name, behind < TEXT_ROOM ? behind : TEXT_ROOM);
+    switch (kind) {
+    case SHORTER:
+        text_length -= text_length > 0;
+        break;
+    case LONGER:
+        start.text[text_length++] = one_in(2) ? (uint8_t)('a' + below(2)) : printable();
+        break;
+    case CHANGED:
+        if (text_length > 0)
+            start.text[below((uint32_t)text_length)] = one_in(2) ? (uint8_t)('a' + below(2)) : printable();
+        break;
+    case NO_BYTES:
+        text_length = 0;
+        break;
+    case TOO_LONG:
+        text_length = SES_NAME_LENGTH + 1 + below(SES_NAME_LENGTH);
+        break;
+    case NOT_PRINTABLE:
+        if (text_length == SES_NAME_LENGTH)
+            start.text[below(SES_NAME_LENGTH)] = not_printable();
+        else
+            text_length += 1 + below(SES_NAME_LENGTH - (uint32_t)text_length);
+        break;
+    default:
+        break;
+    }
+}
+
+/* Sometimes past the last, by little or by so much that its last two bytes are not. */
+static void choose_number(unsigned count)
+{
+    number = one_in(4) || count == 0 ? count + below(3) : below(count);
+    if (one_in(16))
+        number += (1 + below(65535)) << 16;
+}
+
+static void compare_names(void)
+{
+    enum kind kind = (enum kind)below(KINDS);
+    make_text(kind);
+    BOTH(FIND_NAME, find_name, SHELF, TEXT, &at->element);
+    if (plain.answer == SES_ACCEPTED)
+        found[kind][plain.element != SES_NO_ELEMENT]++;
+    choose_number(elements);
+    BOTH(SET_NAME, set_name, SHELF, number, TEXT);
+    choose_number(good[40]);
+    BOTH(SET_OVERALL_NAME, set_overall_name, SHELF, number, TEXT);
+}
+
 /* What came up. */
 
 static int possible(enum call call, unsigned answer)
@@ -637,6 +853,31 @@ static int all_refused(void)
     return right;
 }
 
+/* Each byte of an entry of names can be. */
+static int all_names_refused(void)
+{
+    int right = 1;
+    for (unsigned at = 0; at < SES_NAME_LENGTH; at++)
+        if (name_refused_for[at] == 0) {
+            fprintf(stderr, "agree: byte %u of an entry of names was not refused\n", at);
+            right = 0;
+        }
+    return right;
+}
+
+/* Each kind of text was not found, and found if it can be. */
+static int all_found(void)
+{
+    int right = 1;
+    for (int kind = 0; kind < KINDS; kind++)
+        if (found[kind][0] == 0 || (found[kind][1] != 0) != kinds[kind].can_be_found) {
+            fprintf(stderr, "agree: %s was not found %u times and found %u times\n", kinds[kind].name, found[kind][0],
+                    found[kind][1]);
+            right = 0;
+        }
+    return right;
+}
+
 static void print_given(void)
 {
     printf("%-22s", "");
@@ -662,10 +903,12 @@ int main(int argc, char **argv)
         compare_configuration();
         compare_status();
         compare_thresholds();
+        compare_descriptors();
         compare_apply();
         compare_build();
+        compare_names();
     }
-    if (!(all_given() & all_told() & all_refused()))
+    if (!(all_given() & all_told() & all_refused() & all_names_refused() & all_found()))
         return 1;
     printf("The library and plain C agree on %ld random shelves and their pages. How often each call gave each answer:\n", rounds);
     print_given();

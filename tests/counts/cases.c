@@ -1,5 +1,5 @@
-/* The cases: each call, the builder with each of four wishes, on each of four shelves. This runs in the emulated processor, without
- * a C library. The counter calls prepare, and then from the same memory each of the two functions that `job` names. */
+/* The cases: each call, the builder with each of four wishes and the calls on names with long names and with none, on each of four
+ * shelves. This runs in the emulated processor, without a C library. The counter calls prepare, and then from the same memory each of the two functions that `job` names. */
 #include "cases.h"
 #include "plain.h"
 
@@ -10,10 +10,12 @@ struct job job;
 void prepare(unsigned call, unsigned on_shelf);
 
 /* The lent memory. */
-static uint8_t shelf[SES_LONGEST_BLOCK], configuration[SES_CONFIGURATION_LENGTH], page[SES_LONGEST_CONFIGURATION_PAGE], wanted[SES_LONGEST_WANTED_LIST], out[512];
+static uint8_t shelf[SES_LONGEST_BLOCK], configuration[SES_CONFIGURATION_LENGTH], page[SES_LONGEST_DESCRIPTOR_PAGE];
+static uint8_t wanted[SES_LONGEST_WANTED_LIST], out[SES_LONGEST_DESCRIPTOR_PAGE + 100], text[SES_NAME_LENGTH];
 static struct ses_status status;
 static struct ses_thresholds thresholds;
-static uint32_t written, selects, offset;
+static struct ses_names names;
+static uint32_t written, selects, offset, found;
 
 static size_t shelf_length, page_length;
 static unsigned types, each, elements;
@@ -80,12 +82,26 @@ static void make_element(uint8_t *element, uint8_t code, unsigned i)
     }
 }
 
+/* Of 32 bytes. Those of all slots have the first 20 in common, and then the number of the slot. */
+static void make_name(uint8_t *name, unsigned slot)
+{
+    memcpy(name, "Element of the shelf", 20);
+    memset(name + 20, 'n', 12);
+    name[20] = (uint8_t)('0' + slot / 10);
+    name[21] = (uint8_t)('0' + slot % 10);
+}
+
+static uint8_t *name_of_slot(unsigned slot)
+{
+    return shelf + SES_CONFIGURATION_LENGTH + 16 * elements + 32 * slot;
+}
+
 static void make_shelf(unsigned s)
 {
     types = shelves[s].types;
     each = shelves[s].each;
     elements = types * each;
-    shelf_length = SES_CONFIGURATION_LENGTH + 16 * elements;
+    shelf_length = SES_CONFIGURATION_LENGTH + 16 * elements + 32 * (types + elements);
     memset(shelf, 0, sizeof shelf);
     shelf[3] = 7;
     memset(shelf + 4, 'i', 36);
@@ -94,6 +110,8 @@ static void make_shelf(unsigned s)
         make_type(shelf + 44 + 36 * t, code_of_type(t), shelves[s].text);
     for (unsigned j = 0; j < elements; j++)
         make_element(shelf + SES_CONFIGURATION_LENGTH + 16 * j, code_of_type(j / each), j % each);
+    for (unsigned slot = 0; slot < types + elements; slot++)
+        make_name(name_of_slot(slot), slot);
     memcpy(configuration, shelf, sizeof configuration);
 }
 
@@ -170,11 +188,25 @@ static void want_different(void)
     }
 }
 
+/* Names. */
+
+static void forget_names(void)
+{
+    memset(name_of_slot(0), 0, 32 * (types + elements));
+}
+
+/* The name of the element at a place of a type. */
+static void ask_for(unsigned t, unsigned place)
+{
+    memcpy(text, name_of_slot(t * (1 + each) + 1 + place), sizeof text);
+}
+
 /* Cases. */
 
 #define SHELF (uintptr_t)shelf, shelf_length
 #define CONFIGURATION (uintptr_t)configuration, sizeof configuration
 #define PAGE (uintptr_t)page, page_length
+#define TEXT (uintptr_t)text, sizeof text
 #define OUT (uintptr_t)out, sizeof out, (uintptr_t)&written
 
 #define JOB(name, ...)                                                                                                 \
@@ -242,6 +274,74 @@ static void rewrite_thresholds(void)
     JOB(rewrite_thresholds, CONFIGURATION, (uintptr_t)&thresholds, OUT);
 }
 
+static void write_descriptors(void)
+{
+    JOB(write_descriptors, SHELF, OUT);
+}
+
+static void write_no_names(void)
+{
+    forget_names();
+    write_descriptors();
+}
+
+static void read_descriptors(void)
+{
+    make_page(plain_write_descriptors);
+    JOB(read_descriptors, CONFIGURATION, PAGE, (uintptr_t)&names, (uintptr_t)&offset);
+}
+
+static void read_no_names(void)
+{
+    forget_names();
+    read_descriptors();
+}
+
+static void rewrite_descriptors(void)
+{
+    make_page(plain_write_descriptors);
+    plain_read_descriptors(configuration, sizeof configuration, page, page_length, &names, &offset);
+    JOB(rewrite_descriptors, CONFIGURATION, (uintptr_t)&names, OUT);
+}
+
+static void rewrite_no_names(void)
+{
+    forget_names();
+    rewrite_descriptors();
+}
+
+static void find_first(void)
+{
+    ask_for(0, 0);
+    JOB(find_name, SHELF, TEXT, (uintptr_t)&found);
+}
+
+static void find_last(void)
+{
+    ask_for(types - 1, each - 1);
+    JOB(find_name, SHELF, TEXT, (uintptr_t)&found);
+}
+
+/* Another text behind the bytes that all names have in common. */
+static void find_nothing(void)
+{
+    ask_for(0, 0);
+    memset(text + 20, 'x', 12);
+    JOB(find_name, SHELF, TEXT, (uintptr_t)&found);
+}
+
+static void set_name(void)
+{
+    memset(text, 'x', sizeof text);
+    JOB(set_name, SHELF, elements - 1, TEXT);
+}
+
+static void set_overall_name(void)
+{
+    memset(text, 'x', sizeof text);
+    JOB(set_overall_name, SHELF, types - 1, TEXT);
+}
+
 static void apply_control(void)
 {
     make_out_page(0x02, ask_control);
@@ -298,6 +398,17 @@ static const struct {
     {"build_control, one element", build_one_element},
     {"build_control, all alike", build_all_alike},
     {"build_control, all different", build_all_different},
+    {"write_descriptors, 32 bytes", write_descriptors},
+    {"write_descriptors, no names", write_no_names},
+    {"read_descriptors, 32 bytes", read_descriptors},
+    {"read_descriptors, no names", read_no_names},
+    {"rewrite_descriptors, 32 bytes", rewrite_descriptors},
+    {"rewrite_descriptors, no names", rewrite_no_names},
+    {"find_name, first", find_first},
+    {"find_name, last", find_last},
+    {"find_name, none", find_nothing},
+    {"set_name", set_name},
+    {"set_overall_name", set_overall_name},
 };
 
 _Static_assert(sizeof calls / sizeof *calls == COUNTED_CALLS, "the counter knows how many calls there are");
@@ -311,7 +422,8 @@ static void start(unsigned s)
     memset(out, 0xEE, sizeof out);
     memset(&status, 0xEE, sizeof status);
     memset(&thresholds, 0xEE, sizeof thresholds);
-    written = selects = offset = 0xEEEEEEEE;
+    memset(&names, 0xEE, sizeof names);
+    written = selects = offset = found = 0xEEEEEEEE;
 }
 
 void prepare(unsigned call, unsigned on_shelf)

@@ -202,7 +202,7 @@ static void compare(const struct job *job, const struct count count[SIDES])
 
 static void print_head(void)
 {
-    printf("%-28s", "");
+    printf("%-30s", "");
     for (uint64_t shelf = 0; shelf < SHELVES; shelf++)
         printf(" %21s", prepare(0, shelf).shelf);
     printf(" %11s\n", "stack");
@@ -224,7 +224,7 @@ static void print_call(uint64_t number)
         job = prepare(number, shelf);
         count_case(&job, count[shelf]);
     }
-    printf("%-28s", job.call);
+    printf("%-30s", job.call);
     for (int shelf = 0; shelf < SHELVES; shelf++) {
         uint64_t library = count[shelf][0].instructions, plain = count[shelf][1].instructions;
         printf(" %8d %6d %5.2f", (int)library, (int)plain, (double)library / (double)plain);

@@ -1,4 +1,4 @@
-/* The calls of ses.h in plain C, written from document 01 and docs/LAYOUT.md: one loop over the types, in it one over the
+/* The calls of ses.h in plain C, written from document 01, its landed requests and docs/LAYOUT.md: one loop over the types, in it one over the
  * elements, and no pass that a rule does not ask for. A page is tested whole before anything is written. */
 #include "plain.h"
 
@@ -7,14 +7,15 @@
 
 enum { COOLING = 0x03, TEMPERATURE = 0x04, VOLTAGE = 0x12, CURRENT = 0x13 };
 
-enum { CONFIGURATION_PAGE = 0x01, CONTROL_PAGE = 0x02, STATUS_PAGE = 0x02, THRESHOLD_PAGE = 0x05 };
+enum { CONFIGURATION_PAGE = 0x01, CONTROL_PAGE = 0x02, STATUS_PAGE = 0x02, THRESHOLD_PAGE = 0x05, DESCRIPTOR_PAGE = 0x07 };
 
-enum { MOST_TYPES = 8, MOST_ELEMENTS = 64, MOST_TEXT = 32 };
+enum { MOST_TYPES = 8, MOST_ELEMENTS = 64, MOST_TEXT = 32, MOST_SLOTS = MOST_TYPES + MOST_ELEMENTS };
 
 /* Places in a shelf block, and on pages. */
 enum { IDENTIFICATION = 4, IDENTIFICATION_LENGTH = 36, TYPE_COUNT = 40, TYPES = 44, TYPE_LENGTH = 36, TEXT = 4 };
 enum { ELEMENTS = SES_CONFIGURATION_LENGTH, ELEMENT_LENGTH = 16, THRESHOLDS = 4, READING = 8, NOMINAL = 10, NOTHING = 12 };
-enum { SLOTS = 8, SLOT_LENGTH = 4, HEADERS = 48, HEADER_LENGTH = 4 };
+enum { NAME_LENGTH = MOST_TEXT };
+enum { SLOTS = 8, SLOT_LENGTH = 4, HEADERS = 48, HEADER_LENGTH = 4, DESCRIPTORS = 8, DESCRIPTOR_HEAD = 4 };
 
 /* Status codes. */
 enum { OK = 1, CRITICAL = 2, NONCRITICAL = 3, NOT_KNOWN = 6, HIGHEST_CODE = 8 };
@@ -159,10 +160,16 @@ static int configuration_elements(const uint8_t *configuration, size_t length)
     return length == SES_CONFIGURATION_LENGTH ? front_elements(configuration, length) : -1;
 }
 
+static unsigned slots_of(const uint8_t *front, int elements)
+{
+    return front[TYPE_COUNT] + (unsigned)elements;
+}
+
+/* Any bytes are names. */
 static int shelf_elements(const uint8_t *shelf, size_t length)
 {
     int elements = front_elements(shelf, length);
-    if (elements < 0 || length != ELEMENTS + ELEMENT_LENGTH * (size_t)elements)
+    if (elements < 0 || length != ELEMENTS + ELEMENT_LENGTH * (size_t)elements + NAME_LENGTH * slots_of(shelf, elements))
         return -1;
     const uint8_t *end = types_end(shelf), *element = shelf + ELEMENTS;
     for (const uint8_t *type = shelf + TYPES; type < end; type += TYPE_LENGTH)
@@ -179,11 +186,6 @@ uint8_t plain_check(const uint8_t *shelf, size_t shelf_length)
 
 /* What pages share. */
 
-static unsigned slots_of(const uint8_t *front, int elements)
-{
-    return front[TYPE_COUNT] + (unsigned)elements;
-}
-
 static void put_header(uint8_t *page, uint8_t code, const uint8_t *front, size_t length)
 {
     page[0] = code;
@@ -192,15 +194,22 @@ static void put_header(uint8_t *page, uint8_t code, const uint8_t *front, size_t
     memcpy(page + 4, front, 4);
 }
 
-/* Refusals 2, 3, 4, 12, 5 of a page with these slots. */
-static uint8_t header_refusal(const uint8_t *page, size_t length, uint8_t code, const uint8_t *front, unsigned slots)
+/* Refusals 2, 3, 4 of a page. */
+static uint8_t frame_refusal(const uint8_t *page, size_t length, uint8_t code)
 {
     if (length < 4)
         return SES_PAGE_TOO_SHORT;
     if (page[0] != code)
         return SES_PAGE_CODE;
-    if (length != number2(page + 2) + 4)
-        return SES_PAGE_LENGTH;
+    return length != number2(page + 2) + 4 ? SES_PAGE_LENGTH : SES_ACCEPTED;
+}
+
+/* And 12, 5 of a page with these slots. */
+static uint8_t header_refusal(const uint8_t *page, size_t length, uint8_t code, const uint8_t *front, unsigned slots)
+{
+    uint8_t refusal = frame_refusal(page, length, code);
+    if (refusal != SES_ACCEPTED)
+        return refusal;
     if (length != SLOTS + SLOT_LENGTH * slots)
         return SES_NEEDED_LENGTH;
     if (memcmp(page + 4, front, 4) != 0)
@@ -327,12 +336,9 @@ uint8_t plain_read_configuration(const uint8_t *page, size_t page_length,
                                  uint8_t configuration[SES_CONFIGURATION_LENGTH], uint32_t *offset)
 {
     *offset = 0;
-    if (page_length < 4)
-        return SES_PAGE_TOO_SHORT;
-    if (page[0] != CONFIGURATION_PAGE)
-        return SES_PAGE_CODE;
-    if (page_length != number2(page + 2) + 4)
-        return SES_PAGE_LENGTH;
+    uint8_t refusal = frame_refusal(page, page_length, CONFIGURATION_PAGE);
+    if (refusal != SES_ACCEPTED)
+        return refusal;
     if (!configuration_has_needed_length(page, page_length))
         return SES_NEEDED_LENGTH;
     *offset = configuration_offence(page, page_length);
@@ -783,6 +789,214 @@ uint8_t plain_rewrite_thresholds(const uint8_t *configuration, size_t configurat
     put_header(out, THRESHOLD_PAGE, configuration, length);
     memcpy(out + SLOTS, record->entry, SLOT_LENGTH * slots);
     *written = (uint32_t)length;
+    return SES_ACCEPTED;
+}
+
+/* The Element Descriptor page. */
+
+/* The page of names that stand one after the other, each as long as is told here. All lengths together are `sum`. */
+static uint8_t put_descriptors(const uint8_t *front, const uint8_t *name, const uint8_t *lengths, unsigned slots, size_t sum,
+                               uint8_t *out, size_t out_length, uint32_t *written)
+{
+    size_t length = DESCRIPTORS + DESCRIPTOR_HEAD * slots + sum;
+    if (out_length < length)
+        return SES_OUTPUT_TOO_SHORT;
+    put_header(out, DESCRIPTOR_PAGE, front, length);
+    uint8_t *descriptor = out + DESCRIPTORS;
+    for (unsigned i = 0; i < slots; i++, name += NAME_LENGTH) {
+        put4(descriptor, lengths[i]);
+        memcpy(descriptor + DESCRIPTOR_HEAD, name, lengths[i]);
+        descriptor += DESCRIPTOR_HEAD + lengths[i];
+    }
+    *written = (uint32_t)length;
+    return SES_ACCEPTED;
+}
+
+uint8_t plain_write_descriptors(const uint8_t *shelf, size_t shelf_length,
+                                uint8_t *out, size_t out_length, uint32_t *written)
+{
+    *written = 0;
+    int elements = shelf_elements(shelf, shelf_length);
+    if (elements < 0)
+        return SES_SHELF_NOT_WELL_FORMED;
+    unsigned slots = slots_of(shelf, elements);
+    const uint8_t *names = shelf + ELEMENTS + ELEMENT_LENGTH * elements;
+    uint8_t lengths[MOST_SLOTS];
+    size_t sum = 0;
+    for (unsigned i = 0; i < slots; i++) {
+        lengths[i] = (uint8_t)printable_length(names + NAME_LENGTH * i, NAME_LENGTH);
+        sum += lengths[i];
+    }
+    return put_descriptors(shelf, names, lengths, slots, sum, out, out_length, written);
+}
+
+/* Do the descriptors, with the texts that they declare, end where the page ends? */
+static bool descriptors_have_needed_length(const uint8_t *page, size_t length, unsigned slots)
+{
+    size_t needed = DESCRIPTORS;
+    for (unsigned i = 0; i < slots; i++) {
+        if (length < needed + DESCRIPTOR_HEAD)
+            return false;
+        needed += DESCRIPTOR_HEAD + number2(page + needed + 2);
+    }
+    return length == needed;
+}
+
+/* The byte of a descriptor that offends first, or its length. */
+static size_t descriptor_offence(const uint8_t *descriptor, size_t text)
+{
+    if (descriptor[0] != 0)
+        return 0;
+    if (descriptor[1] != 0)
+        return 1;
+    return text > MOST_TEXT ? 2 : DESCRIPTOR_HEAD + printable_length(descriptor + DESCRIPTOR_HEAD, text);
+}
+
+static uint32_t descriptors_offence(const uint8_t *page, unsigned slots)
+{
+    if (page[1] != 0)
+        return 1;
+    const uint8_t *descriptor = page + DESCRIPTORS;
+    for (unsigned i = 0; i < slots; i++) {
+        size_t text = number2(descriptor + 2), at = descriptor_offence(descriptor, text);
+        descriptor += at;
+        if (at != DESCRIPTOR_HEAD + text)
+            return (uint32_t)(descriptor - page);
+    }
+    return 0;
+}
+
+uint8_t plain_read_descriptors(const uint8_t *configuration, size_t configuration_length,
+                               const uint8_t *page, size_t page_length, struct ses_names *record,
+                               uint32_t *offset)
+{
+    *offset = 0;
+    int elements = configuration_elements(configuration, configuration_length);
+    if (elements < 0)
+        return SES_SHELF_NOT_WELL_FORMED;
+    uint8_t refusal = frame_refusal(page, page_length, DESCRIPTOR_PAGE);
+    if (refusal != SES_ACCEPTED)
+        return refusal;
+    unsigned slots = slots_of(configuration, elements);
+    if (!descriptors_have_needed_length(page, page_length, slots))
+        return SES_NEEDED_LENGTH;
+    if (memcmp(page + 4, configuration, 4) != 0)
+        return SES_GENERATION;
+    *offset = descriptors_offence(page, slots);
+    if (*offset != 0)
+        return SES_NOT_ALLOWED;
+    memset(record->spare, 0, sizeof record->spare);
+    put2(record->entries, slots);
+    const uint8_t *descriptor = page + DESCRIPTORS;
+    for (unsigned i = 0; i < slots; i++) {
+        size_t text = descriptor[3];
+        memset(&record->entry[i], 0, sizeof record->entry[i]);
+        memcpy(&record->entry[i], descriptor + DESCRIPTOR_HEAD, text);
+        descriptor += DESCRIPTOR_HEAD + text;
+    }
+    return SES_ACCEPTED;
+}
+
+uint8_t plain_rewrite_descriptors(const uint8_t *configuration, size_t configuration_length,
+                                  const struct ses_names *record,
+                                  uint8_t *out, size_t out_length, uint32_t *written)
+{
+    *written = 0;
+    int elements = configuration_elements(configuration, configuration_length);
+    if (elements < 0)
+        return SES_SHELF_NOT_WELL_FORMED;
+    unsigned slots = slots_of(configuration, elements);
+    if (number2(record->entries) != slots)
+        return SES_WANTED_LIST;
+    uint8_t lengths[MOST_SLOTS];
+    size_t sum = 0;
+    for (unsigned i = 0; i < slots; i++) {
+        const uint8_t *text = record->entry[i].text;
+        size_t length = printable_length(text, NAME_LENGTH);
+        if (!all_zero(text + length, NAME_LENGTH - length))
+            return SES_NOT_ALLOWED;
+        lengths[i] = (uint8_t)length;
+        sum += length;
+    }
+    return put_descriptors(configuration, record->entry[0].text, lengths, slots, sum, out, out_length, written);
+}
+
+/* Names found and set. */
+
+static bool is_name(const uint8_t *text, size_t length)
+{
+    return length <= MOST_TEXT && printable_length(text, length) == length;
+}
+
+/* Is this the name? All bytes of the text are printable, so it has to end where the text ends. */
+static bool named(const uint8_t *name, const uint8_t *text, size_t length)
+{
+    return memcmp(name, text, length) == 0 && (length == NAME_LENGTH || printable_length(name + length, 1) == 0);
+}
+
+uint8_t plain_find_name(const uint8_t *shelf, size_t shelf_length, const uint8_t *text, size_t text_length,
+                        uint32_t *element)
+{
+    *element = SES_NO_ELEMENT;
+    int elements = shelf_elements(shelf, shelf_length);
+    if (elements < 0)
+        return SES_SHELF_NOT_WELL_FORMED;
+    if (!is_name(text, text_length))
+        return SES_ACCEPTED;
+    const uint8_t *end = types_end(shelf), *name = shelf + ELEMENTS + ELEMENT_LENGTH * elements;
+    uint32_t number = 0;
+    for (const uint8_t *type = shelf + TYPES; type < end; type += TYPE_LENGTH) {
+        name += NAME_LENGTH;
+        for (unsigned i = 0; i < type[1]; i++, number++, name += NAME_LENGTH)
+            if (named(name, text, text_length)) {
+                *element = number;
+                return SES_ACCEPTED;
+            }
+    }
+    return SES_ACCEPTED;
+}
+
+static void put_name(uint8_t *shelf, int elements, unsigned slot, const uint8_t *text, size_t length)
+{
+    uint8_t *name = shelf + ELEMENTS + ELEMENT_LENGTH * elements + NAME_LENGTH * slot;
+    memset(name, 0, NAME_LENGTH);
+    memcpy(name, text, length);
+}
+
+uint8_t plain_set_name(uint8_t *shelf, size_t shelf_length, uint32_t element,
+                       const uint8_t *text, size_t text_length)
+{
+    int elements = shelf_elements(shelf, shelf_length);
+    if (elements < 0)
+        return SES_SHELF_NOT_WELL_FORMED;
+    if (element >= (uint32_t)elements)
+        return SES_NO_SUCH_ELEMENT;
+    if (!is_name(text, text_length))
+        return SES_NOT_ALLOWED;
+    /* In front of it stand the names of the elements before it and of the overall elements up to its type. */
+    unsigned slot = element + 1, through = shelf[TYPES + 1];
+    for (const uint8_t *type = shelf + TYPES; element >= through; slot++) {
+        type += TYPE_LENGTH;
+        through += type[1];
+    }
+    put_name(shelf, elements, slot, text, text_length);
+    return SES_ACCEPTED;
+}
+
+uint8_t plain_set_overall_name(uint8_t *shelf, size_t shelf_length, uint32_t type,
+                               const uint8_t *text, size_t text_length)
+{
+    int elements = shelf_elements(shelf, shelf_length);
+    if (elements < 0)
+        return SES_SHELF_NOT_WELL_FORMED;
+    if (type >= shelf[TYPE_COUNT])
+        return SES_NO_SUCH_ELEMENT;
+    if (!is_name(text, text_length))
+        return SES_NOT_ALLOWED;
+    unsigned slot = type;
+    for (unsigned t = 0; t < type; t++)
+        slot += shelf[TYPES + TYPE_LENGTH * t + 1];
+    put_name(shelf, elements, slot, text, text_length);
     return SES_ACCEPTED;
 }
 

@@ -9,7 +9,7 @@
 #define SPEED_4 0x00, 0x00, 0x00, 0x24
 #define SPEED_5 0x00, 0x00, 0x00, 0x25
 
-/* Generation 7; one type: three fans, and a text of three bytes. Each fan: ON (20h) and SPEED 3, reading 120. */
+/* Generation 7; one type: three fans, and a text of three bytes. Each fan: ON (20h) and SPEED 3, reading 120. Then four names. */
 const uint8_t shelf_a[A_LENGTH] = {
     [3] = 7,
     [40] = 1,
@@ -17,6 +17,10 @@ const uint8_t shelf_a[A_LENGTH] = {
     [332] = SPEED_3, [341] = 120,
     [348] = SPEED_3, [357] = 120,
     [364] = SPEED_3, [373] = 120,
+    [380] = 'R', 'e', 'a', 'r', ' ', 'f', 'a', 'n', 's',
+    [412] = 'F', 'a', 'n', ' ', 'r', 'e', 'a', 'r', ' ', 'l', 'e', 'f', 't',
+    [444] = 'F', 'a', 'n', ' ', 'r', 'e', 'a', 'r', ' ', 'm', 'i', 'd', 'd', 'l', 'e',
+    [476] = 'F', 'a', 'n', ' ', 'r', 'e', 'a', 'r', ' ', 'r', 'i', 'g', 'h', 't',
 };
 
 /* 55 bytes, length field 0033h. */
@@ -93,7 +97,7 @@ static void put_fans(uint8_t shelf[A_LENGTH], const uint8_t settings[12])
     memcpy(shelf + 364, settings + 8, 4);
 }
 
-/* The page brings the shelf to what is wanted, and changes nothing else. */
+/* The page brings the shelf to what is wanted, and changes nothing else, no name either. */
 static void hold_applied(const char *what, const uint8_t stored[12], const uint8_t page[24], const uint8_t wanted[12])
 {
     uint8_t shelf[A_LENGTH], brought[A_LENGTH];
@@ -137,6 +141,7 @@ void put_sensor(uint8_t shelf[SENSOR_LENGTH], uint8_t type, const uint8_t thresh
     shelf[341] = reading & 0xFF;
     shelf[342] = nominal >> 8;
     shelf[343] = nominal & 0xFF;
+    memset(shelf + 348, 0xFF, 64);
 }
 
 /* High critical, high warning, low warning, low critical; reading and nominal; then page byte 1 and the status element, whose code

@@ -1,5 +1,5 @@
-/* Lengths and fields of the header by their names: a status page and a threshold page, read and written again, and a control page
- * built as README.md shows it. */
+/* Lengths and fields of the header by their names: a status page, a threshold page and a page of names, read and written again,
+ * and a control page built as README.md shows it. */
 #include "literals.h"
 
 #include <string.h>
@@ -17,11 +17,18 @@ void hold_lengths(void)
     hold("SES_FIRST_ELEMENT", SES_FIRST_ELEMENT, 332);
     hold("SES_ELEMENT_LENGTH", SES_ELEMENT_LENGTH, 16);
     hold("SES_SETTINGS_LENGTH", SES_SETTINGS_LENGTH, 4);
-    hold("SES_LONGEST_BLOCK", SES_LONGEST_BLOCK, 1356);
     hold("SES_LONGEST_WANTED_LIST", SES_LONGEST_WANTED_LIST, 256);
-    /* Document 01: at most 296; and 48 + 4 x 8 + 8 texts of 32. */
+    /* 32 bytes for a name. Those of 3 elements start at 332 + 16 x 3, and end with the block 32 x 5 bytes later for two types. The
+     * longest block has 332 + 16 x 64 + 32 x 72 bytes. */
+    hold("SES_NAME_LENGTH", SES_NAME_LENGTH, 32);
+    hold("SES_FIRST_NAME", SES_FIRST_NAME(1 + 2), 380);
+    hold("SES_BLOCK_LENGTH", SES_BLOCK_LENGTH(1 | 2, 1 + 1), 524);
+    hold("SES_LONGEST_BLOCK", SES_LONGEST_BLOCK, 3660);
+    /* Document 01: at most 296; and 48 + 4 x 8 + 8 texts of 32. Request Two: 8 + 72 x (4 + 32). */
     hold("SES_LONGEST_SLOT_PAGE", SES_LONGEST_SLOT_PAGE, 296);
     hold("SES_LONGEST_CONFIGURATION_PAGE", SES_LONGEST_CONFIGURATION_PAGE, 336);
+    hold("SES_LONGEST_DESCRIPTOR_PAGE", SES_LONGEST_DESCRIPTOR_PAGE, 2600);
+    hold("SES_NO_ELEMENT", SES_NO_ELEMENT, 4294967295);
     /* The records of docs/LAYOUT.md, without gaps: four bytes of an entry that all types have, and twelve by the type. */
     hold("struct ses_cooling", sizeof(struct ses_cooling), 12);
     hold("struct ses_temperature", sizeof(struct ses_temperature), 12);
@@ -31,6 +38,9 @@ void hold_lengths(void)
     hold("struct ses_shown", sizeof(struct ses_shown), 16);
     hold("struct ses_status", sizeof(struct ses_status), 1156);
     hold("struct ses_thresholds", sizeof(struct ses_thresholds), 292);
+    /* Four bytes, and 32 for each of 72 entries. */
+    hold("struct ses_name", sizeof(struct ses_name), 32);
+    hold("struct ses_names", sizeof(struct ses_names), 2308);
 }
 
 /* A status element, and what it shows. Byte 0: bit 6 PRDFAIL, 5 DISABLED, 4 SWAP, bits 3 to 0 the code. Each field of a type is
@@ -229,6 +239,49 @@ static void hold_thresholds(void)
     hold_output("thresholds, again", &out, limits, sizeof limits);
 }
 
+#define OF_32_BYTES                                                                                                    \
+    'T', 'h', 'e', ' ', 'f', 'i', 'v', 'e', ' ', 'v', 'o', 'l', 't', ' ', 'r', 'a',                                    \
+    'i', 'l', ' ', 'o', 'f', ' ', 's', 'h', 'e', 'l', 'f', ' ', 'B', ' ', '1', '2'
+
+/* Two types, the first without elements. Their names are "a", "Volts" and one of 32 bytes. The page has 8 + 3 x 4 + 1 + 5 + 32 = 58
+ * bytes, length field 0036h. */
+static void hold_record_of_names(void)
+{
+    static const uint8_t two_types[56] = {
+        0x01, 0x00, 0x00, 0x34, 0x00, 0x00, 0x00, 0x07, 0x11, 0x00, 0x02, 0x24,
+        [48] = TEMPERATURE, 0, 0, 0, VOLTAGE, 1, 0, 0,
+    };
+    static const uint8_t labels[58] = {
+        0x07, 0x00, 0x00, 0x36, 0x00, 0x00, 0x00, 0x07,
+        0x00, 0x00, 0x00, 0x01, 'a',
+        0x00, 0x00, 0x00, 0x05, 'V', 'o', 'l', 't', 's',
+        0x00, 0x00, 0x00, 0x20, OF_32_BYTES,
+    };
+    static const struct ses_name named[3] = {
+        {.text = "a"}, {.text = "Volts"}, {.text = {OF_32_BYTES}},
+    };
+    struct ses_names record, told;
+    struct output out;
+    uint32_t offset;
+    read_types(two_types, sizeof two_types);
+    fill(&told, sizeof told);
+    memset(told.spare, 0, 2);
+    told.entries[0] = 0;
+    told.entries[1] = 3;
+    memcpy(told.entry, named, sizeof named);
+    fill(&record, sizeof record);
+    fill(&offset, sizeof offset);
+    hold("names", ses_read_descriptors(configuration, sizeof configuration, labels, sizeof labels, &record, &offset), 0);
+    hold("names", offset, 0);
+    hold_bytes("names", &record, &told, sizeof record);
+    /* What is spare is not looked at. */
+    fill(told.spare, 2);
+    empty(&out);
+    hold("names, again",
+         ses_rewrite_descriptors(configuration, sizeof configuration, &told, out.bytes, sizeof out.bytes, &out.written), 0);
+    hold_output("names, again", &out, labels, sizeof labels);
+}
+
 /* README.md's example for A's middle fan, whose SPEED 3 becomes 7. */
 static void hold_full_speed(void)
 {
@@ -250,5 +303,6 @@ void hold_fields(void)
 {
     hold_shown();
     hold_thresholds();
+    hold_record_of_names();
     hold_full_speed();
 }

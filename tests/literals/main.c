@@ -40,6 +40,12 @@ void hold_bytes(const char *what, const void *is, const void *wanted, size_t len
     printf("literals: %s: byte %zu is %02x, and not %02x\n", what, i, a[i], b[i]);
 }
 
+void hold_told(const char *what, struct told is, unsigned number, unsigned offset)
+{
+    hold(what, is.number, number);
+    hold(what, is.offset, offset);
+}
+
 void fill(void *memory, size_t length)
 {
     memset(memory, UNTOUCHED, length);
@@ -71,6 +77,7 @@ int main(int count, char **words)
         return 1;
     }
     hold_fans_a();
+    hold_names();
     hold_refusals();
     hold_meanings(words[1]);
     hold_lengths();

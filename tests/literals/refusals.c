@@ -1,21 +1,10 @@
-/* The refusals: each by its name in the header and by its number in document 01 (12 in request One), given by a call whose answer
- * they tell; and the offsets that request One adds to 6. What a refused call was lent is as it was. */
+/* The refusals: each by its name in the header and by its number in document 01 (12 in request One, 15 in request Twelve), given
+ * by a call whose answer they tell; and the offsets that request One adds to 6. What a refused call was lent is as it was. Those of
+ * the calls on names are in names.c. */
 #include "literals.h"
 
 #include <stdio.h>
 #include <string.h>
-
-/* What a call that tests a page tells. The offset must be set, whatever the answer. */
-struct told {
-    uint8_t number;
-    uint32_t offset;
-};
-
-static void hold_told(const char *what, struct told is, unsigned number, unsigned offset)
-{
-    hold(what, is.number, number);
-    hold(what, is.offset, offset);
-}
 
 /* Refused pages for A, each by a call of its own. */
 static struct told read_configuration(const uint8_t *page, size_t length)
@@ -93,6 +82,16 @@ static uint8_t write_status(size_t room)
     empty(&out);
     uint8_t answer = ses_write_status(shelf_a, A_LENGTH, out.bytes, room, &out.written);
     hold_no_output("no page written", &out);
+    return answer;
+}
+
+/* An element that A has not. */
+static uint8_t set_name(uint32_t element)
+{
+    uint8_t shelf[A_LENGTH];
+    memcpy(shelf, shelf_a, A_LENGTH);
+    uint8_t answer = ses_set_name(shelf, A_LENGTH, element, (const uint8_t *)"Fan", 3);
+    hold_bytes("A as it was, after a name", shelf, shelf_a, A_LENGTH);
     return answer;
 }
 
@@ -273,9 +272,11 @@ static void hold_offences(void)
         hold_told(offences[i].what, offences[i].refuse(offences[i].page, offences[i].length), 6, offences[i].offset);
 }
 
-/* A's block without its last byte is no shelf, and one byte less of its front no configuration. */
+/* A's block without its last byte is no shelf, and one byte less of its front no configuration. Nor is the block a shelf without
+ * its names, or with a byte behind them. */
 static void hold_not_well_formed(void)
 {
+    static const uint8_t longer[A_LENGTH + 1] = {[3] = 7, [40] = 1, [44] = COOLING, 3, [335] = 0x23, [351] = 0x23, [367] = 0x23};
     static const uint8_t page[24] = {HEADER(0x02, 0x10, 0x14, 7)}, thresholds[24] = {HEADER(0x05, 0x10, 0x14, 7)};
     uint8_t shelf[A_LENGTH];
     struct ses_status shown;
@@ -289,6 +290,10 @@ static void hold_not_well_formed(void)
     told[3].number = ses_apply_thresholds(shelf, A_LENGTH - 1, thresholds, 24, &told[3].offset);
     for (int i = 0; i < 4; i++)
         hold_told("not well formed", told[i], 1, 0);
+    hold("A without names", ses_check(shelf_a, 380), 1);
+    hold("A without its last name", ses_check(shelf_a, 476), 1);
+    hold("three fans", ses_check(longer, A_LENGTH), 0);
+    hold("three fans and a byte", ses_check(longer, A_LENGTH + 1), 1);
 }
 
 static void hold_refusal(const char *name, unsigned answer, unsigned value, unsigned number)
@@ -297,7 +302,7 @@ static void hold_refusal(const char *name, unsigned answer, unsigned value, unsi
     hold(name, answer, value);
 }
 
-static void hold_names(void)
+static void hold_numbers(void)
 {
     static const uint8_t control[24] = {HEADER(0x02, 0x00, 0x14, 7)}, later[24] = {HEADER(0x02, 0x00, 0x14, 8)};
     static const uint8_t longer[28] = {HEADER(0x02, 0x00, 0x18, 7)};
@@ -321,6 +326,7 @@ static void hold_names(void)
     hold_refusal("SES_UNREACHABLE", build(swap, 12), SES_UNREACHABLE, 10);
     hold_refusal("SES_OUTPUT_TOO_SHORT", write_status(23), SES_OUTPUT_TOO_SHORT, 11);
     hold_refusal("SES_NEEDED_LENGTH", apply_control(longer, 28).number, SES_NEEDED_LENGTH, 12);
+    hold_refusal("SES_NO_SUCH_ELEMENT", set_name(3), SES_NO_SUCH_ELEMENT, 15);
 }
 
 /* Acceptance, 7 and 8 tell no offset. */
@@ -340,23 +346,31 @@ void hold_refusals(void)
     hold_offences();
     hold_not_well_formed();
     hold_no_offset();
-    hold_names();
+    hold_numbers();
 }
 
-/* Each line of the file is a number and its words; the numbers go from 0 to 12, and no other has a meaning. */
+/* The numbers that have a meaning go from 0 to 12; then comes 15. */
+static unsigned number_after(unsigned number)
+{
+    return number == 12 ? 15 : number + 1;
+}
+
+/* Each line of the file is a number and its words, and no other number has a meaning. */
 void hold_meanings(const char *file)
 {
     FILE *lines = fopen(file, "r");
     char words[100];
-    unsigned read = 0, number;
+    unsigned read = 0, next = 0, number;
     while (lines != NULL && fscanf(lines, "%u %99[^\n]", &number, words) == 2) {
-        hold("number of a meaning", number, read);
+        hold("number of a meaning", number, next);
         hold_words("meaning", ses_meaning(number), words);
         read++;
+        next = number_after(number);
     }
     if (lines != NULL)
         fclose(lines);
-    hold("meanings", read, 13);
+    hold("meanings", read, 14);
     for (number = 13; number < 256; number++)
-        hold_words("meaning", ses_meaning(number), "no refusal has this number");
+        if (number != 15)
+            hold_words("meaning", ses_meaning(number), "no refusal has this number");
 }

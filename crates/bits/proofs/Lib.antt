@@ -5,6 +5,7 @@ pub mod Sums
 pub mod Offence
 pub mod Ends
 pub mod Rows
+pub mod Texts
 pub mod RowStarts
 pub mod Parts
 pub mod BytesPut

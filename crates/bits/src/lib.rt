@@ -10,6 +10,7 @@ ghost use Rattle.bits.specs.Places.{fourAt, putFour, twoAt};
 ghost use Rattle.bits.specs.Numbers.{big, bytes};
 ghost use Rattle.bits.specs.Masks.{firstOutside};
 ghost use Rattle.bits.specs.Rows.{bytesAt, putBytes};
+ghost use Rattle.bits.specs.Texts.{printableRun, sameBytes};
 
 // Four flags as half a byte, the first the highest.
 pub fn nibble(a: bool, b: bool, c: bool, d: bool) -> u8
@@ -137,6 +138,39 @@ pub fn copy(from: &[u8], at: u32, to: &mut [u8], place: u32, n: u32)
         to[k + i] = get(from, at as usize + i);
         i += 1;
     }
+}
+
+// How many of n bytes stand before the first that is not printable.
+pub fn printable_run(s: &[u8], at: u32, n: u32) -> u32
+    requires { ⌜ at + n ≤ length (now s) ⌝ }
+    ensures { λ r. ⌜ r ≡ printableRun (now (s .entry)) at n ⌝ }
+{
+    let k = at as usize;
+    let mut i: u32 = 0;
+    while i < n {
+        if !is_printable(get(s, k + i as usize)) {
+            return i;
+        }
+        i += 1;
+    }
+    i
+}
+
+// Whether n bytes are the first of a text.
+pub fn are_same(s: &[u8], at: u32, text: &[u8], n: u32) -> bool
+    requires { ⌜ at + n ≤ length (now s) ⌝ }
+    requires { ⌜ n ≤ length (now text) ⌝ }
+    ensures { λ r. ⌜ r ≡ sameBytes (now (s .entry)) at (now (text .entry)) n ⌝ }
+{
+    let k = at as usize;
+    let mut i: usize = 0;
+    while i < n as usize {
+        if get(s, k + i) != get(text, i) {
+            return false;
+        }
+        i += 1;
+    }
+    true
 }
 
 pub fn big16_at(s: &[u8], at: u32) -> u16

@@ -9,17 +9,17 @@ use refusals::Answer;
 use refusals::PageAnswer;
 use refusals::Refusal;
 use shelf::limits;
+use shelf::texts;
 ghost use mathlib.Core.Path.{_≡_};
 ghost use mathlib.Core.Bool.{true};
-ghost use mathlib.Core.List.{_++_};
-ghost use Prim.Native.Nat.{_+_, _-_, _<_, _≤_};
-ghost use lib.ListN.{length, replicate};
+ghost use Prim.Native.Nat.{_+_, _<_, _≤_};
+ghost use lib.ListN.{length};
 ghost use Rattle.bits.specs.Choice.{firstBelow};
 ghost use Rattle.bits.specs.Places.{fourAt};
-ghost use Rattle.bits.specs.Rows.{bytesAt, putBytes, rowsPut};
+ghost use Rattle.bits.specs.Rows.{putBytes, rowsPut};
 ghost use Rattle.refusals.specs.declared.PageAnswer.the-variants.{Accepted};
 ghost use Rattle.refusals.specs.Outcomes.{placed, HandsBack};
-ghost use Rattle.shelf.specs.Limits.{mostTypes, mostText, typePlace, elementPlace, HasTypes};
+ghost use Rattle.shelf.specs.Limits.{mostTypes, typePlace, elementPlace, HasTypes};
 ghost use Rattle.page.specs.Header.{lengthSaid, lengthTested};
 ghost use Rattle.configuration_page.specs.Page.{headerPlace};
 ghost use Rattle.configuration_page.specs.Read.{typesOn, neededLength, textOffends, offends, offenceBelow, roomTested, bytesTested, configurationRead};
@@ -214,17 +214,6 @@ fn head_told(page: &[u8], t: u16) -> [u8; 4]
     }
 }
 
-// The text of n bytes that starts here, zeros behind it.
-fn text_told(page: &[u8], start: u32, n: u32) -> [u8; limits::MOST_TEXT as usize]
-    requires { ⌜ start + n ≤ length (now page) ⌝ }
-    requires { ⌜ n ≤ mostText ⌝ }
-    ensures { λ r. ⌜ r ≡ bytesAt (now (page .entry)) start n ++ replicate (mostText - n) 0 ⌝ }
-{
-    let mut text = [0; limits::MOST_TEXT as usize];
-    bits::copy(page, start, &mut text, 0, n);
-    text
-}
-
 // Puts type t, whose text starts here, and tells how long that is.
 fn put_type(page: &[u8], t: u16, start: u32, configuration: &mut [u8]) -> u32
     requires { ⌜ configurationRead (now page) ≡ Accepted ⌝ }
@@ -236,7 +225,7 @@ fn put_type(page: &[u8], t: u16, start: u32, configuration: &mut [u8]) -> u32
 {
     let head = head_told(page, t);
     let bytes = head[2] as u32;
-    let text = text_told(page, start, bytes);
+    let text = texts::padded(page, start, bytes);
     bits::put_four(configuration, limits::type_place(t), head);
     bits::copy(
         &text,

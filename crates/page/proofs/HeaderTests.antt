@@ -1,6 +1,6 @@
 -- The tests of a header one after the other, and the header written. Assumes nothing.
 use mathlib.Core.Path.{_≡_, refl, sym, ap, _∙_}
-use mathlib.Core.Bool.{true, false}
+use mathlib.Core.Bool.{true}
 use mathlib.Core.List.{List, [], _∷_}
 use Prim.Native.Nat.{ℕ, _-_, _≤_}
 use native.Mathlib.Omega.{arith}
@@ -22,7 +22,7 @@ use Rattle.shelf.specs.Limits.{HasTypes}
 use Rattle.shelf_formed.specs.Formed.{wellFormed}
 use Rattle.shelf_formed.proofs.ElementPut.{length-formed}
 use Rattle.page.specs.Slots.{slotsOf, slotPlace}
-use Rattle.page.specs.Header.{shelfTested, pageTested, lengthSaid, generationOn, generationOf, sizeTested, codeTested, saidTested, framed, lengthTested, generationTested, headed, header, headPut}
+use Rattle.page.specs.Header.{shelfTested, pageTested, lengthSaid, generationOn, generationOf, sizeTested, codeTested, saidTested, framed, lengthTested, generationTested, headed, headOf, headOfPut, header, headPut}
 
 -- the frame
 module _ (p : List ℕ) (code : ℕ) where
@@ -120,10 +120,13 @@ module _ (c p : List ℕ) (code n : ℕ) where
         generation-last g = gone-on (framed p code) rest f u (gone-on (lengthTested p (slotPlace n)) (generationTested c p) needed v g)
 
 -- the header, from what the calls say
-pub head-is : (c out : List ℕ) (code own n : ℕ) {l : ℕ} {f o1 o2 : List ℕ} → l ≡ slotPlace n → o1 ≡ putFour out 0 (code ∷ own ∷ bytes 2 (l - 4))
-    → f ≡ fourAt c 0 → o2 ≡ putFour o1 4 f → o2 ≡ headPut c out code own n
+pub head-is : (c out : List ℕ) (code own m : ℕ) {f o1 o2 : List ℕ} → o1 ≡ putFour out 0 (code ∷ own ∷ bytes 2 (m - 4)) → f ≡ fourAt c 0
+    → o2 ≡ putFour o1 4 f → o2 ≡ headOfPut c out code own m
+head-is c out code own m q r s = s ∙ rw (q, r)
+
+pub head-of-slots : (c out : List ℕ) (code own n : ℕ) {m : ℕ} {o : List ℕ} → m ≡ slotPlace n → o ≡ headOfPut c out code own m → o ≡ headPut c out code own n
 unfolding headPut
-head-is c out code own n p q r s = s ∙ rw (q, r, p)
+head-of-slots c out code own n p q = q ∙ ap (headOfPut c out code own) p
 
 pub head-length : (c out : List ℕ) (code own n : ℕ) {o : List ℕ} → o ≡ headPut c out code own n → length o ≡ length out
 unfolding headPut
@@ -132,12 +135,15 @@ head-length c out code own n e =
     ap length e ∙ length-put (putFour out 0 f) 4 (fourAt c 0) ∙ length-put out 0 f
 
 -- it stands before what stood behind it
-pub head-put : (c out : List ℕ) (code own n : ℕ) → 8 ≤ length out → headPut c out code own n ≡ placed (header c code own n) out
-unfolding headPut header
-head-put c out code own n h =
-    let first : List ℕ = code ∷ own ∷ bytes 2 (slotPlace n - 4) in
+pub head-of-put : (c out : List ℕ) (code own m : ℕ) → 8 ≤ length out → headOfPut c out code own m ≡ placed (headOf c code own m) out
+head-of-put c out code own m h =
+    let first : List ℕ = code ∷ own ∷ bytes 2 (m - 4) in
     ap (λ (o : List ℕ). putFour o 4 (fourAt c 0)) (four-behind [] out first 0 refl refl (omega arith))
     ∙ four-behind first out (fourAt c 0) 4 refl refl (omega arith)
+
+pub head-put : (c out : List ℕ) (code own n : ℕ) → 8 ≤ length out → headPut c out code own n ≡ placed (header c code own n) out
+unfolding headPut header
+head-put c out code own n h = head-of-put c out code own (slotPlace n) h
 
 -- an accepted shelf is well formed, and has all its types
 pub shelf-formed : (s : List ℕ) {a : Answer} → a ≡ shelfTested s → a ≡ Accepted → wellFormed s ≡ true

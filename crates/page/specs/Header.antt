@@ -69,10 +69,17 @@ pageTested s p code = next (shelfTested s) (headed s p code (slotsOf s))
 abbrev pub HasPage : List ℕ → List ℕ → Type 0
 HasPage s p = (wellFormed s ≡ true) × (slotPlace (slotsOf s) ≤ length p)
 
--- byte 0 the code, byte 1 the page's own, bytes 2 and 3 length minus 4, bytes 4 to 7 the generation code
-unfoldable pub header : List ℕ → ℕ → ℕ → ℕ → List ℕ
-header c code own n = code ∷ own ∷ (bytes 2 (slotPlace n - 4) ++ fourAt c 0)
+-- of a page of m bytes: byte 0 the code, byte 1 the page's own, bytes 2 and 3 length minus 4, bytes 4 to 7 the generation code
+abbrev pub headOf : List ℕ → ℕ → ℕ → ℕ → List ℕ
+headOf c code own m = code ∷ own ∷ (bytes 2 (m - 4) ++ fourAt c 0)
 
--- the list with the header put into it, each half where it fits
+-- the list with it put into it, each half where it fits
+abbrev pub headOfPut : List ℕ → List ℕ → ℕ → ℕ → ℕ → List ℕ
+headOfPut c out code own m = putFour (putFour out 0 (code ∷ own ∷ bytes 2 (m - 4))) 4 (fourAt c 0)
+
+-- the same of a page of n slots
+unfoldable pub header : List ℕ → ℕ → ℕ → ℕ → List ℕ
+header c code own n = headOf c code own (slotPlace n)
+
 unfoldable pub headPut : List ℕ → List ℕ → ℕ → ℕ → ℕ → List ℕ
-headPut c out code own n = putFour (putFour out 0 (code ∷ own ∷ bytes 2 (slotPlace n - 4))) 4 (fourAt c 0)
+headPut c out code own n = headOfPut c out code own (slotPlace n)

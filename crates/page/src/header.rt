@@ -7,7 +7,7 @@ ghost use mathlib.Core.Path.{_≡_};
 ghost use Prim.Native.Nat.{_≤_};
 ghost use lib.ListN.{length};
 ghost use Rattle.shelf.specs.Limits.{HasTypes};
-ghost use Rattle.page.specs.Header.{sizeTested, codeTested, saidTested, framed, lengthTested, generationTested, headed, headPut};
+ghost use Rattle.page.specs.Header.{sizeTested, codeTested, saidTested, framed, lengthTested, generationTested, headed, headOfPut, headPut};
 
 fn test_size(page: &[u8]) -> Answer
     ensures { λ r. ⌜ r ≡ sizeTested (now (page .entry)) ⌝ }
@@ -64,7 +64,7 @@ pub fn test_length(page: &[u8], needed: u32) -> Answer
     Answer::Accepted
 }
 
-fn test_generation(configuration: &[u8], page: &[u8]) -> Answer
+pub fn test_generation(configuration: &[u8], page: &[u8]) -> Answer
     requires { ⌜ HasTypes (now configuration) ⌝ }
     requires { ⌜ 8 ≤ length (now page) ⌝ }
     ensures { λ r. ⌜ r ≡ generationTested (now (configuration .entry)) (now (page .entry)) ⌝ }
@@ -91,14 +91,24 @@ pub fn test(configuration: &[u8], page: &[u8], code: u8, n: u16) -> Answer
     test_generation(configuration, page)
 }
 
-// Writes the header of a page with n slots.
+// Writes the header of a page of so many bytes.
+pub fn put_of(configuration: &[u8], out: &mut [u8], code: u8, own: u8, bytes: u32)
+    requires { ⌜ HasTypes (now configuration) ⌝ }
+    requires { ⌜ 8 ≤ length (now out) ⌝ }
+    requires { ⌜ 4 ≤ bytes ⌝ }
+    ensures { λ _. ⌜ now (out .exit) ≡ headOfPut (now (configuration .entry)) (now (out .entry)) code own bytes ⌝ }
+{
+    let length = bytes - 4;
+    let first = [code, own, (length / 256 % 256) as u8, (length % 256) as u8];
+    bits::put_four(out, 0, first);
+    bits::put_four(out, 4, bits::four_at(configuration, limits::GENERATION));
+}
+
+// The same with n slots.
 pub fn put(configuration: &[u8], out: &mut [u8], code: u8, own: u8, n: u16)
     requires { ⌜ HasTypes (now configuration) ⌝ }
     requires { ⌜ 8 ≤ length (now out) ⌝ }
     ensures { λ _. ⌜ now (out .exit) ≡ headPut (now (configuration .entry)) (now (out .entry)) code own n ⌝ }
 {
-    let length = slots::slot_place(n) - 4;
-    let first = [code, own, (length / 256 % 256) as u8, (length % 256) as u8];
-    bits::put_four(out, 0, first);
-    bits::put_four(out, 4, bits::four_at(configuration, limits::GENERATION));
+    put_of(configuration, out, code, own, slots::slot_place(n));
 }

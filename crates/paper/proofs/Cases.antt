@@ -3,7 +3,7 @@
 use mathlib.Core.Path.{_≡_, refl, sym, ap, subst, _∙_}
 use mathlib.Core.Bool.{Bool, true, false, _&&_}
 use mathlib.Core.List.{List, [], _∷_, _++_}
-use Prim.Native.Nat.{ℕ, _+_, _*_, _<_, _≤_}
+use Prim.Native.Nat.{ℕ, zero, suc, _+_, _*_, _<_, _≤_}
 use native.Mathlib.Omega.{arith}
 use lib.Dec.{eqb, ltb}
 use lib.ListN.{length, getD}
@@ -12,7 +12,8 @@ use Rattle.bits.specs.Numbers.{Bytes}
 use Rattle.bits.specs.Choice.{pick, firstOf, allBelow, offenceIn}
 use Rattle.bits.specs.Bits.{num}
 use Rattle.bits.specs.Places.{fourAt}
-use Rattle.bits.specs.Rows.{joined, bytesAt}
+use Rattle.bits.specs.Rows.{joined, rowStart, bytesAt}
+use Rattle.bits.specs.Texts.{sameBytes}
 use Rattle.bits.proofs.Each.{each-append}
 use Rattle.bits.proofs.Logic.{and-left, and-right, and-both}
 use Rattle.bits.proofs.Rows.{bytes-whole}
@@ -22,13 +23,17 @@ use Rattle.element.specs.Requests.{reservedIn}
 use Rattle.element_control.specs.Control.{controlOf, offending, chosen, settled}
 use Rattle.element.specs.Verdict.{over, under}
 use Rattle.element.specs.Status.{entryBy, shownBy, statusBytes}
-use Rattle.shelf.specs.Limits.{elementPlace}
-use Rattle.shelf.specs.Types.{before, elementsOf, typeOf, kindAt}
+use Rattle.shelf.specs.Limits.{blockLength}
+use Rattle.shelf.specs.Types.{typesOf, before, elementsOf, typeOf, kindAt}
 use Rattle.shelf.specs.Elements.{settingsAt, thresholdsAt, readingAt, nominalAt, spareAt}
-use Rattle.shelf_formed.specs.Formed.{headFormed, textFormed, typeFormed, typeEmpty, slotFormed, typesFormed, spareClear, elementFormed, elementsFormed, frontFormed, wellFormed}
+use Rattle.shelf_formed.specs.Formed.{headFormed, textFormed, typeFormed, typeEmpty, slotFormed, typesFormed, spareClear, elementFormed, elementsFormed, frontFormed, wellFormed, configurationFormed}
 use Rattle.page.specs.Slots.{slotsOf, startOf, slotType, isOverall, slotAt, slotPlace}
 use Rattle.page.specs.Header.{lengthSaid, sizeTested, codeTested, saidTested, framed, lengthTested, generationTested, headed, pageTested, header}
-use Rattle.page.specs.Places.{placesOf}
+use Rattle.page.specs.Places.{ownSlot, placesOf}
+use Rattle.names.specs.Name.{isName, padded, equal}
+use Rattle.names.specs.Found.{foundNumber, elementFound}
+use Rattle.descriptor_page.specs.Page.{descriptor, descriptorPage}
+use Rattle.descriptor_record.specs.Read.{declared, descriptorOf, byteOffends, offends, headTested}
 use Rattle.shelf_status.specs.ShelfStatus.{verdictAt, shownAt, codeAt, worst, pageBits}
 use Rattle.control_page.specs.Tests.{firstAllows, bytesTested, controlTested, valid}
 use Rattle.control_page.proofs.FirstOffence.{slotOffending, found}
@@ -48,8 +53,9 @@ use Rattle.build_page.specs.Page.{searchIn, overallIn, rowUnder, rowFor, select
 use Rattle.build_page.proofs.FirstPage.{made-selects}
 use Rattle.build_page.proofs.PromiseKept.{none-reaches, page-promised}
 use Rattle.build_page.proofs.PromiseLaws.{wish-taken, selects-needed}
-use Rattle.paper.specs.Table.{Case, shows, judges, tells, builds, reaches, refuses, answers, limits, none, typesA, shelfA, OfA, HasStatus, Gets, ReachedBy, RefusedBy, Answers, Holds, AllHold, table}
+use Rattle.paper.specs.Table.{Case, shows, judges, tells, builds, reaches, refuses, answers, describes, finds, reads, limits, none, typesA, frontA, shelfA, OfA, middleNamed, OfNamed, HasStatus, Gets, ReachedBy, RefusedBy, Answers, HasNames, Finds, ReadsNames, Holds, AllHold, table}
 use Rattle.paper.specs.Errors.{errors}
+use Rattle.paper.proofs.NamesOfA.{readRest, read-so, middleName, standing, described-so, foundSo, found-so}
 
 -- a test that each number is a byte
 abbrev allBytes : List ℕ → Bool
@@ -60,13 +66,17 @@ are-bytes : (l : List ℕ) → allBytes l ≡ true → Bytes l
 are-bytes [] t = tt
 are-bytes (b ∷ bs) t = (ltb-true b 256 (and-left _ _ t), are-bytes bs (and-right (ltb b 256) _ t))
 
--- A with any identification i, of which each byte stands by itself: so the definitions compute
-abbrev anyA : List ℕ → List ℕ → List ℕ
-anyA i f = shelfA (bytesAt i 0 36) f
+-- A with any identification i and any names m, of which each byte stands by itself: so the definitions compute
+abbrev anyA : List ℕ → List ℕ → List ℕ → List ℕ
+anyA i m f = shelfA (bytesAt i 0 36) f (bytesAt m 0 128)
+
+-- the same with a name for its middle fan
+abbrev namedA : List ℕ → List ℕ → List ℕ → List ℕ
+namedA i f x = shelfA (bytesAt i 0 36) f (middleNamed x)
 
 -- what is left of the tests of a shelf and of a wish where the front is well formed, which is tested once and not in each case
 abbrev shelfRest : List ℕ → Bool
-shelfRest s = eqb (length s) (elementPlace (elementsOf s)) && elementsFormed s (elementsOf s)
+shelfRest s = eqb (length s) (blockLength (typesOf s) (elementsOf s)) && elementsFormed s (elementsOf s)
 
 abbrev wishRest : List ℕ → List ℕ → Bool
 wishRest s w = eqb (length w) (4 * elementsOf s) && allBelow (mayBe s w) (elementsOf s)
@@ -81,29 +91,38 @@ abbrev pageUnder : List ℕ → List ℕ → List ℕ → List ℕ
 pageUnder s w o = header s 0x02 0 (slotsOf s) ++ joined (λ k. rowUnder s w (slotAt s k) o) (slotsOf s)
 
 -- what antt computes of a case: numbers, and bytes
-given : List ℕ → Case → List (List ℕ)
-given i (shows k s r n t b) = statusBytes k (shownBy k (settingsOf k s) r n t) ∷ []
-given i (judges k r n t v) = limits (verdictOf k (settingsOf k none) r n t) ∷ []
-given i (tells f p) = (num (shelfRest (anyA i f)) ∷ []) ∷ statusPage (anyA i f) ∷ []
-given i (builds f w p n) =
-    let s = anyA i f in
+given : List ℕ → List ℕ → Case → List (List ℕ)
+given i m (shows k s r n t b) = statusBytes k (shownBy k (settingsOf k s) r n t) ∷ []
+given i m (judges k r n t v) = limits (verdictOf k (settingsOf k none) r n t) ∷ []
+given i m (tells f p) = (num (shelfRest (anyA i m f)) ∷ []) ∷ statusPage (anyA i m f) ∷ []
+given i m (builds f w p n) =
+    let s = anyA i m f in
     (num (shelfRest s) ∷ num (wishRest s w) ∷ num (allBelow (reachable s w) (elementsOf s)) ∷ num (allBytes f) ∷ num (allBytes w) ∷ selectsOn s p ∷ [])
     ∷ overallIn s w 0
     ∷ pageUnder s w (fourAt p (slotPlace 0))
     ∷ []
-given i (reaches f w p n) =
-    let s = anyA i f in
+given i m (reaches f w p n) =
+    let s = anyA i m f in
     (num (allBytes p) ∷ num (shelfRest s) ∷ num (accepts (pageRest s p)) ∷ selectsOn s p ∷ cost (searchIn s w 0) (fourAt p (slotPlace 0)) ∷ [])
     ∷ broughtTo s p
     ∷ []
-given i (refuses f w n) =
-    let s = anyA i f in
+given i m (refuses f w n) =
+    let s = anyA i m f in
     (num (shelfRest s) ∷ num (wishRest s w) ∷ num (allBelow (reachable s w) (elementsOf s)) ∷ numberOf Unreachable ∷ []) ∷ []
-given i (answers f p n k) =
-    let s = anyA i f in
+given i m (answers f p n k) =
+    let s = anyA i m f in
     (num (shelfRest s) ∷ pageNumber (pageRest s p) ∷ pageOffset (pageRest s p) ∷ []) ∷ []
+given i m (describes f x p) =
+    let s = namedA i f x in
+    (num (shelfRest s) ∷ num (standing s x) ∷ []) ∷ descriptorPage s (middleName x) 4 ∷ []
+given i m (finds f x y j) =
+    let s = namedA i f x in
+    (num (shelfRest s) ∷ num (standing s x) ∷ foundNumber (foundSo x y) ∷ elementFound (foundSo x y) ∷ []) ∷ []
+given i m (reads p n k) =
+    let c = frontA (bytesAt i 0 36) in
+    (pageNumber (readRest c p) ∷ pageOffset (readRest c p) ∷ []) ∷ []
 
--- and what document 01 tells
+-- and what document 01 tells, or the request
 told : Case → List (List ℕ)
 told (shows k s r n t b) = b ∷ []
 told (judges k r n t v) = v ∷ []
@@ -112,6 +131,9 @@ told (builds f w p n) = (1 ∷ 1 ∷ 1 ∷ 1 ∷ 1 ∷ n ∷ []) ∷ fourAt p (s
 told (reaches f w p n) = (1 ∷ 1 ∷ 1 ∷ n ∷ n ∷ []) ∷ w ∷ []
 told (refuses f w n) = (1 ∷ 1 ∷ 0 ∷ n ∷ []) ∷ []
 told (answers f p n k) = (1 ∷ n ∷ k ∷ []) ∷ []
+told (describes f x p) = (1 ∷ 1 ∷ []) ∷ p ∷ []
+told (finds f x y j) = (1 ∷ 1 ∷ 0 ∷ j ∷ []) ∷ []
+told (reads p n k) = (n ∷ k ∷ []) ∷ []
 
 yes : (b : Bool) → num b ≡ 1 → b ≡ true
 yes true h = refl
@@ -129,35 +151,89 @@ number : {p q : List (List ℕ)} (k : ℕ) → p ≡ q → getD (getD p 0 []) k 
 number k e = ap (λ (l : List (List ℕ)). getD (getD l 0 []) k 0) e
 
 -- where the two agree, the case holds
-module _ (i f : List ℕ) where
-  abbrev s : List ℕ
-  s = anyA i f
+module _ (i rest : List ℕ) where
+  abbrev whole : List ℕ
+  whole = frontA (bytesAt i 0 36) ++ rest
 
-  bytes-A : Bytes (bytesAt i 0 36) → allBytes f ≡ true → Bytes s
-  bytes-A h t =
-      let generation : List ℕ = 0 ∷ 0 ∷ 0 ∷ 7 ∷ [] in
-      each-append (λ b. b < 256) (generation ++ bytesAt i 0 36 ++ typesA) f
-      (each-append (λ b. b < 256) (generation ++ bytesAt i 0 36) typesA (each-append (λ b. b < 256) generation (bytesAt i 0 36) (are-bytes generation refl) h) (are-bytes typesA refl))
-      (are-bytes f t)
-
-  front : frontFormed s ≡ true
+  front : frontFormed whole ≡ true
   unfolding frontFormed headFormed typesFormed slotFormed typeFormed typeEmpty textFormed served kindOf elementsOf before bytesAt
   front = refl
 
-  formed : shelfRest s ≡ true → wellFormed s ≡ true
+  formed : shelfRest whole ≡ true → wellFormed whole ≡ true
   unfolding wellFormed
-  formed t = and-both (and-both front (and-left _ _ t)) (and-right (eqb (length s) (elementPlace (elementsOf s))) _ t)
+  formed t = and-both (and-both front (and-left _ _ t)) (and-right (eqb (length whole) (blockLength (typesOf whole) (elementsOf whole))) _ t)
+
+  -- its slots
+  three : elementsOf whole ≡ 3
+  unfolding elementsOf before bytesAt
+  three = refl
+
+  four : slotsOf whole ≡ 4
+  unfolding slotsOf elementsOf before bytesAt
+  four = refl
+
+  own-slot : (j : ℕ) → j < 3 → ownSlot whole j ≡ j + 1
+  unfolding typeOf before bytesAt
+  own-slot zero l = refl
+  own-slot (suc zero) l = refl
+  own-slot (suc (suc zero)) l = refl
+  own-slot (suc (suc (suc j))) l = absurd (omega arith)
+
+-- of names
+module _ (i : List ℕ) where
+  configuration : configurationFormed (frontA (bytesAt i 0 36)) ≡ true
+  unfolding configurationFormed frontFormed headFormed typesFormed slotFormed typeFormed typeEmpty textFormed served kindOf elementsOf before bytesAt
+  configuration = refl
+
+  reads-so : (p : List ℕ) (n k : ℕ) → given i [] (reads p n k) ≡ told (reads p n k) → ReadsNames p n k (frontA (bytesAt i 0 36))
+  unfolding given told
+  reads-so p n k e =
+      let a = read-so (frontA (bytesAt i 0 36)) p configuration in
+      (ap pageNumber a ∙ number 0 e, ap pageOffset a ∙ number 1 e)
+
+  module _ (f x : List ℕ) where
+    abbrev rest : List ℕ
+    rest = f ++ middleNamed x
+
+    abbrev shelf : List ℕ
+    shelf = namedA i f x
+
+    describes-so : (p : List ℕ) → given i [] (describes f x p) ≡ told (describes f x p) → HasNames p shelf
+    unfolding given told
+    describes-so p e =
+        (formed i rest (yes (shelfRest shelf) (number 0 e)), described-so shelf x (yes (standing shelf x) (number 1 e)) (three i rest) (four i rest) ∙ list 1 e)
+
+    finds-so : (y : List ℕ) (j : ℕ) → given i [] (finds f x y j) ≡ told (finds f x y j) → Finds y j shelf
+    unfolding given told
+    finds-so y j e =
+        let a =
+        found-so shelf x y (yes (standing shelf x) (number 1 e)) (three i rest) (formed i rest (yes (shelfRest shelf) (number 0 e))) (own-slot i rest) in
+        (ap foundNumber a ∙ number 2 e, ap elementFound a ∙ number 3 e)
+
+module _ (i m f : List ℕ) where
+  abbrev s : List ℕ
+  s = anyA i m f
+
+  bytes-A : Bytes (bytesAt i 0 36) → Bytes (bytesAt m 0 128) → allBytes f ≡ true → Bytes s
+  bytes-A h l t =
+      let generation : List ℕ = 0 ∷ 0 ∷ 0 ∷ 7 ∷ [] in
+      each-append (λ b. b < 256) (generation ++ bytesAt i 0 36 ++ typesA) (f ++ bytesAt m 0 128)
+      (each-append (λ b. b < 256) (generation ++ bytesAt i 0 36) typesA (each-append (λ b. b < 256) generation (bytesAt i 0 36) (are-bytes generation refl) h) (are-bytes typesA refl))
+      (each-append (λ b. b < 256) f (bytesAt m 0 128) (are-bytes f t) l)
+
+  well-formed : shelfRest s ≡ true → wellFormed s ≡ true
+  well-formed t = formed i (f ++ bytesAt m 0 128) t
 
   -- a page's answer, where the shelf is well formed
   answered : (p : List ℕ) → shelfRest s ≡ true → controlTested s p ≡ pageRest s p
   unfolding controlTested pageTested bytesTested
-  answered p t = rw (formed t, found s p (slotsOf s))
+  answered p t = rw (well-formed t, found s p (slotsOf s))
 
   accepted : (p : List ℕ) → shelfRest s ≡ true → accepts (pageRest s p) ≡ true → valid s p ≡ true
   unfolding valid
   accepted p t h = ap accepts (answered p t) ∙ h
 
-  answers-so : (p : List ℕ) (n k : ℕ) → given i (answers f p n k) ≡ told (answers f p n k) → Answers p n k s
+  answers-so : (p : List ℕ) (n k : ℕ) → given i m (answers f p n k) ≡ told (answers f p n k) → Answers p n k s
   unfolding given told
   answers-so p n k e =
       let a = answered p (yes (shelfRest s) (number 0 e)) in
@@ -165,20 +241,20 @@ module _ (i f : List ℕ) where
 
   module _ (w : List ℕ) where
     taken : shelfRest s ≡ true → wishRest s w ≡ true → wishTested s w ≡ Accepted
-    taken t u = wish-taken s w (formed t) (eqb-true _ _ (and-left _ _ u)) (and-right (eqb (length w) (4 * elementsOf s)) _ u)
+    taken t u = wish-taken s w (well-formed t) (eqb-true _ _ (and-left _ _ u)) (and-right (eqb (length w) (4 * elementsOf s)) _ u)
 
     made : controlPage s w ≡ pageUnder s w (overallIn s w 0)
     unfolding controlPage rowFor slotsOf elementsOf slotType startOf before bytesAt
     made = refl
 
-    gets : (p : List ℕ) (n : ℕ) → Bytes (bytesAt i 0 36) → given i (builds f w p n) ≡ told (builds f w p n) → Gets w p n s
+    gets : (p : List ℕ) (n : ℕ) → Bytes (bytesAt i 0 36) → Bytes (bytesAt m 0 128) → given i m (builds f w p n) ≡ told (builds f w p n) → Gets w p n s
     unfolding given told
-    gets p n h e out =
+    gets p n h l e out =
         let overall : overallIn s w 0 ≡ fourAt p (slotPlace 0) = list 1 e in
         let page : controlPage s w ≡ p = made ∙ ap (pageUnder s w) overall ∙ list 2 e in
         let count : selectsFor s w (slotsOf s) ≡ n = sym (made-selects s w) ∙ ap (selectsOn s) page ∙ number 5 e in
         page-promised s w out refl (taken (yes (shelfRest s) (number 0 e)) (yes (wishRest s w) (number 1 e)))
-        (bytes-A h (yes (allBytes f) (number 3 e)))
+        (bytes-A h l (yes (allBytes f) (number 3 e)))
         (are-bytes w (yes (allBytes w) (number 4 e)))
         refl
         refl
@@ -193,7 +269,7 @@ module _ (i f : List ℕ) where
         let h : 0 + cost (searchIn s w 0) (fourAt q (slotPlace 0)) ≤ selectsOn s q = selects-needed s w q r in
         omega arith
 
-    reached : (p : List ℕ) (n : ℕ) → given i (reaches f w p n) ≡ told (reaches f w p n) → ReachedBy w p n s
+    reached : (p : List ℕ) (n : ℕ) → given i m (reaches f w p n) ≡ told (reaches f w p n) → ReachedBy w p n s
     unfolding given told
     reached p n e = (
       (are-bytes p (yes (allBytes p) (number 0 e)), accepted p (yes (shelfRest s) (number 1 e)) (yes (accepts (pageRest s p)) (number 2 e)), list 1 e),
@@ -201,7 +277,7 @@ module _ (i f : List ℕ) where
       (λ q r o. let c = ap (cost (searchIn s w 0)) o ∙ number 4 e in omega (arith, c, needed q r)),
     )
 
-    refused : (n : ℕ) → given i (refuses f w n) ≡ told (refuses f w n) → RefusedBy w n s
+    refused : (n : ℕ) → given i m (refuses f w n) ≡ told (refuses f w n) → RefusedBy w n s
     unfolding given told
     refused n e out = (
       Refused Unreachable,
@@ -209,58 +285,67 @@ module _ (i f : List ℕ) where
       number 3 e,
     )
 
--- any 36 bytes are 36 single ones
-of-A : (f : List ℕ) (P : List ℕ → Type 0) → ((i : List ℕ) → Bytes (bytesAt i 0 36) → P (anyA i f)) → OfA f P
-of-A f P h i b l =
+-- any 36 bytes are 36 single ones, and so are the 128 of the names
+of-A : (f : List ℕ) (P : List ℕ → Type 0) → ((i m : List ℕ) → Bytes (bytesAt i 0 36) → Bytes (bytesAt m 0 128) → P (anyA i m f)) → OfA f P
+of-A f P h i m b l c k =
     let e = bytes-whole i 36 l in
-    subst (λ (x : List ℕ). P (shelfA x f)) e (h i (rw e b))
+    let d = bytes-whole m 128 k in
+    subst (λ (x : List ℕ). P (shelfA x f m)) e (subst (λ (x : List ℕ). P (shelfA (bytesAt i 0 36) f x)) d (h i m (rw e b) (rw d c)))
 
-holds : (c : Case) → ((i : List ℕ) → given i c ≡ told c) → Holds c
+of-named : (f x : List ℕ) (P : List ℕ → Type 0) → ((i : List ℕ) → P (namedA i f x)) → OfNamed f x P
+of-named f x P h i l = subst (λ (y : List ℕ). P (shelfA y f (middleNamed x))) (bytes-whole i 36 l) (h i)
+
+holds : (c : Case) → ((i m : List ℕ) → given i m c ≡ told c) → Holds c
 unfolding given told
-holds (shows k s r n t b) e = list 0 (e [])
-holds (judges k r n t v) e = list 0 (e [])
-holds (tells f p) e = of-A f (HasStatus p) (λ i h. (formed i f (yes (shelfRest (anyA i f)) (number 0 (e i))), list 1 (e i)))
-holds (builds f w p n) e = of-A f (Gets w p n) (λ i h. gets i f w p n h (e i))
-holds (reaches f w p n) e = of-A f (ReachedBy w p n) (λ i h. reached i f w p n (e i))
-holds (refuses f w n) e = of-A f (RefusedBy w n) (λ i h. refused i f w n (e i))
-holds (answers f p n k) e = of-A f (Answers p n k) (λ i h. answers-so i f p n k (e i))
+holds (shows k s r n t b) e = list 0 (e [] [])
+holds (judges k r n t v) e = list 0 (e [] [])
+holds (tells f p) e = of-A f (HasStatus p) (λ i m h l. (well-formed i m f (yes (shelfRest (anyA i m f)) (number 0 (e i m))), list 1 (e i m)))
+holds (builds f w p n) e = of-A f (Gets w p n) (λ i m h l. gets i m f w p n h l (e i m))
+holds (reaches f w p n) e = of-A f (ReachedBy w p n) (λ i m h l. reached i m f w p n (e i m))
+holds (refuses f w n) e = of-A f (RefusedBy w n) (λ i m h l. refused i m f w n (e i m))
+holds (answers f p n k) e = of-A f (Answers p n k) (λ i m h l. answers-so i m f p n k (e i m))
+holds (describes f x p) e = of-named f x (HasNames p) (λ i. describes-so i f x p (e i []))
+holds (finds f x y j) e = of-named f x (Finds y j) (λ i. finds-so i f x y j (e i []))
+holds (reads p n k) e = λ i l. subst (λ (y : List ℕ). ReadsNames p n k (frontA y)) (bytes-whole i 36 l) (reads-so i p n k (e i []))
 
 -- the two agree on each of the cases
 infixr 5 _also_
-data Agree (i : List ℕ) : List Case → Type 0 where
-  end : Agree i []
-  _also_ : {c : Case} {cs : List Case} → given i c ≡ told c → Agree i cs → Agree i (c ∷ cs)
+data Agree (i m : List ℕ) : List Case → Type 0 where
+  end : Agree i m []
+  _also_ : {c : Case} {cs : List Case} → given i m c ≡ told c → Agree i m cs → Agree i m (c ∷ cs)
 
-all-hold : (cs : List Case) → ((i : List ℕ) → Agree i cs) → AllHold cs
+all-hold : (cs : List Case) → ((i m : List ℕ) → Agree i m cs) → AllHold cs
 all-hold [] a = tt
-all-hold (c ∷ cs) a = (holds c (λ i. first i (a i)), all-hold cs (λ i. rest i (a i)))
+all-hold (c ∷ cs) a = (holds c (λ i m. first i m (a i m)), all-hold cs (λ i m. rest i m (a i m)))
   where
-    first : (i : List ℕ) → Agree i (c ∷ cs) → given i c ≡ told c
-    first i (e also l) = e
+    first : (i m : List ℕ) → Agree i m (c ∷ cs) → given i m c ≡ told c
+    first i m (e also l) = e
 
-    rest : (i : List ℕ) → Agree i (c ∷ cs) → Agree i cs
-    rest i (e also l) = l
+    rest : (i m : List ℕ) → Agree i m (c ∷ cs) → Agree i m cs
+    rest i m (e also l) = l
 
-computed : (i : List ℕ) → Agree i table
+computed : (i m : List ℕ) → Agree i m table
 unfolding settingsOf settingsBytes controlOf reservedIn offending chosen settled over under verdictOf entryBy shownBy statusBytes kindOf
     layoutOf readingAllowed nominalAllowed settingsFormed had ordered before elementsOf typeOf kindAt settingsAt thresholdsAt readingAt
     nominalAt spareAt spareClear elementFormed elementsFormed slotsOf startOf slotType isOverall slotAt header shownAt verdictAt codeAt
     worst shownIn pageBits slotBytes pageWith statusPage firstOf lengthSaid sizeTested codeTested saidTested framed lengthTested
     generationTested headed placesOf slotOffending settingsAfter broughtTo inReach alike requestBytes own brings one
-    tried tries cost better best overallIn rowUnder reachable bytesAt served given told
-computed i =
+    tried tries cost better best overallIn rowUnder reachable bytesAt served isName padded equal sameBytes rowStart descriptor descriptorPage
+    declared descriptorOf byteOffends offends headTested given told
+computed i m =
     refl also refl also refl also refl also refl also refl also refl also refl also refl also refl also refl also refl
     also refl also refl also refl also refl also refl also refl also refl also refl also refl also refl also refl also refl
+    also refl also refl also refl also refl also refl also refl also refl also refl also refl also refl also refl
     also refl also refl also refl also refl also refl also refl also refl also end
 
 -- apart from the table, so that antt holds less at a time
-computed-errors : (i : List ℕ) → Agree i errors
+computed-errors : (i m : List ℕ) → Agree i m errors
 unfolding settingsOf settingsBytes controlOf reservedIn offending chosen settled kindOf layoutOf readingAllowed nominalAllowed
     settingsFormed had ordered before elementsOf typeOf kindAt settingsAt thresholdsAt readingAt nominalAt spareAt spareClear elementFormed
     elementsFormed slotsOf startOf slotType isOverall slotAt firstOf lengthSaid sizeTested codeTested saidTested framed lengthTested
     generationTested headed placesOf slotOffending settingsAfter broughtTo alike requestBytes own brings one cost
     bytesAt given told
-computed-errors i = refl also refl also refl also end
+computed-errors i m = refl also refl also refl also end
 
 pub proved : AllHold table
 proved = all-hold table computed

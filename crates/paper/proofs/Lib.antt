@@ -1,1 +1,2 @@
+pub mod NamesOfA
 pub mod Cases

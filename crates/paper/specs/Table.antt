@@ -1,8 +1,8 @@
--- The cases that document 01 marks M, and those of request One. Assumes nothing.
+-- The cases that document 01 marks M, and those of requests One and Two. Assumes nothing.
 use mathlib.Core.Path.{_≡_}
 use mathlib.Core.Bool.{true}
 use mathlib.Core.List.{List, [], _∷_, _++_}
-use Prim.Native.Nat.{ℕ, _≤_}
+use Prim.Native.Nat.{ℕ, _*_, _-_, _≤_}
 use lib.ListN.{length, replicate}
 use Rattle.bits.specs.Bits.{num}
 use Rattle.bits.specs.Numbers.{Bytes}
@@ -17,6 +17,9 @@ use Rattle.refusals.specs.Numbers.{pageNumber, pageOffset}
 use Rattle.shelf_formed.specs.Formed.{wellFormed}
 use Rattle.page.specs.Slots.{slotPlace}
 use Rattle.control_page.specs.Tests.{controlTested}
+use Rattle.names.specs.Found.{found, foundNumber, elementFound}
+use Rattle.descriptor_page.specs.Page.{namesPage}
+use Rattle.descriptor_record.specs.Read.{namesRead}
 use Rattle.status_page.specs.Page.{statusPage}
 use Rattle.build_page.specs.declared.built.Built.{Built}
 use Rattle.build_page.specs.Outcome.{builtNumber, builtOf, leftBy}
@@ -37,6 +40,12 @@ pub data Case : Type 0 where
   refuses : List ℕ → List ℕ → ℕ → Case
   -- A with these fans answers this control page by this number and this offset
   answers : List ℕ → List ℕ → ℕ → ℕ → Case
+  -- A with these fans, of which the middle one has this name and nothing else has one, has this page of names
+  describes : List ℕ → List ℕ → List ℕ → Case
+  -- and there this text finds the element with this number
+  finds : List ℕ → List ℕ → List ℕ → ℕ → Case
+  -- a page of names, read with A's configuration, is answered by this number and this offset
+  reads : List ℕ → ℕ → ℕ → Case
 
 abbrev pub limits : Verdict → List ℕ
 limits v = v .code ∷ num (v .highcrit) ∷ num (v .highwarn) ∷ num (v .lowwarn) ∷ num (v .lowcrit) ∷ []
@@ -49,13 +58,27 @@ none = 0 ∷ 0 ∷ 0 ∷ 0 ∷ []
 abbrev pub typesA : List ℕ
 typesA = (1 ∷ 0 ∷ 0 ∷ 0 ∷ []) ++ (0x03 ∷ 3 ∷ 3 ∷ 0 ∷ 0x46 ∷ 0x61 ∷ 0x6e ∷ []) ++ replicate 29 0 ++ replicate 252 0
 
--- A: generation 7, the identification, the types and the fans
-abbrev pub shelfA : List ℕ → List ℕ → List ℕ
-shelfA identification fans = (0 ∷ 0 ∷ 0 ∷ 7 ∷ []) ++ identification ++ typesA ++ fans
+-- A's configuration: generation 7, the identification and the types
+abbrev pub frontA : List ℕ → List ℕ
+frontA identification = (0 ∷ 0 ∷ 0 ∷ 7 ∷ []) ++ identification ++ typesA
 
--- it is so of A with these fans, whatever its 36 identification bytes are
+-- A: behind that the fans and the names
+abbrev pub shelfA : List ℕ → List ℕ → List ℕ → List ℕ
+shelfA identification fans names = frontA identification ++ (fans ++ names)
+
+-- it is so of A with these fans, whatever its 36 identification bytes and the 32 of each of its four names are
 abbrev pub OfA : List ℕ → (List ℕ → Type 0) → Type 0
-OfA fans P = (identification : List ℕ) → Bytes identification → length identification ≡ 36 → P (shelfA identification fans)
+OfA fans P =
+    (identification names : List ℕ) → Bytes identification → length identification ≡ 36 → Bytes names → length names ≡ 4 * 32
+    → P (shelfA identification fans names)
+
+-- A's names where the middle fan is called x and nothing else has a name: for the type and for each fan 32 bytes, zeros behind a name
+abbrev pub middleNamed : List ℕ → List ℕ
+middleNamed x = replicate 32 0 ++ replicate 32 0 ++ (x ++ replicate (32 - length x) 0) ++ replicate 32 0
+
+-- it is so of A with these fans and that name, whatever its identification is
+abbrev pub OfNamed : List ℕ → List ℕ → (List ℕ → Type 0) → Type 0
+OfNamed fans x P = (identification : List ℕ) → length identification ≡ 36 → P (shelfA identification fans (middleNamed x))
 
 -- What the definitions and the builder's promise say of a shelf s. It is well formed, and has the status page p
 abbrev pub HasStatus : List ℕ → List ℕ → Type 0
@@ -79,6 +102,18 @@ RefusedBy w n s = (out : List ℕ) → (r : Built) × Promised s w out r out × 
 abbrev pub Answers : List ℕ → ℕ → ℕ → List ℕ → Type 0
 Answers p n k s = (pageNumber (controlTested s p) ≡ n) × (pageOffset (controlTested s p) ≡ k)
 
+-- it is well formed, and has the page of names p
+abbrev pub HasNames : List ℕ → List ℕ → Type 0
+HasNames p s = (wellFormed s ≡ true) × (namesPage s ≡ p)
+
+-- no refusal, and the text x finds the element with the number j
+abbrev pub Finds : List ℕ → ℕ → List ℕ → Type 0
+Finds x j s = (foundNumber (found s x) ≡ 0) × (elementFound (found s x) ≡ j)
+
+-- with the configuration c the page of names p is answered by the number n and the offset k
+abbrev pub ReadsNames : List ℕ → ℕ → ℕ → List ℕ → Type 0
+ReadsNames p n k c = (pageNumber (namesRead c p) ≡ n) × (pageOffset (namesRead c p) ≡ k)
+
 abbrev pub Holds : Case → Type 0
 Holds (shows k s r n t b) = statusBytes k (shownBy k (settingsOf k s) r n t) ≡ b
 Holds (judges k r n t v) = limits (verdictOf k (settingsOf k none) r n t) ≡ v
@@ -87,6 +122,9 @@ Holds (builds f w p n) = OfA f (Gets w p n)
 Holds (reaches f w p n) = OfA f (ReachedBy w p n)
 Holds (refuses f w n) = OfA f (RefusedBy w n)
 Holds (answers f p n k) = OfA f (Answers p n k)
+Holds (describes f x p) = OfNamed f x (HasNames p)
+Holds (finds f x y j) = OfNamed f x (Finds y j)
+Holds (reads p n k) = (identification : List ℕ) → length identification ≡ 36 → ReadsNames p n k (frontA identification)
 
 abbrev pub AllHold : List Case → Type 0
 AllHold [] = Unit {0}
@@ -153,6 +191,15 @@ identifies = 0x80 ∷ 0x80 ∷ 0x00 ∷ 0x20 ∷ []
 abbrev pub silent : List ℕ
 silent = 0x00 ∷ 0x00 ∷ 0x00 ∷ 0x00 ∷ []
 
+-- "Fan rear left"
+abbrev rearLeft : List ℕ
+rearLeft = 0x46 ∷ 0x61 ∷ 0x6e ∷ 0x20 ∷ 0x72 ∷ 0x65 ∷ 0x61 ∷ 0x72 ∷ 0x20 ∷ 0x6c ∷ 0x65 ∷ 0x66 ∷ 0x74 ∷ []
+
+-- a page of names for A, with this length: the descriptor of the middle fan says n bytes, and the others have no text
+abbrev described : ℕ → ℕ → List ℕ → List ℕ
+described l n x =
+    (0x07 ∷ 0x00 ∷ 0x00 ∷ l ∷ 0x00 ∷ 0x00 ∷ 0x00 ∷ 0x07 ∷ []) ++ silent ++ silent ++ ((0x00 ∷ 0x00 ∷ 0x00 ∷ n ∷ []) ++ x) ++ silent
+
 abbrev pub table : List Case
 table =
     -- A's status, whole
@@ -216,4 +263,25 @@ table =
     -- a reserved bit in byte 0 of the middle fan's element: 6 at 16, whatever stands behind it
     ∷ answers fansA (control silent silent (0x88 ∷ 0x00 ∷ 0x00 ∷ 0x20 ∷ []) silent) 6 16
     ∷ answers fansA (control silent silent (0x88 ∷ 0x00 ∷ 0x01 ∷ 0x20 ∷ []) (0x81 ∷ 0x00 ∷ 0x00 ∷ 0x20 ∷ [])) 6 16
+    -- request Two. A's names, whole: 8 + 4 × 4 + 13 bytes
+    ∷ describes fansA rearLeft
+    ((0x07 ∷ 0x00 ∷ 0x00 ∷ 0x21 ∷ 0x00 ∷ 0x00 ∷ 0x00 ∷ 0x07 ∷ [])
+    ++ (0x00 ∷ 0x00 ∷ 0x00 ∷ 0x00 ∷ [])
+    ++ (0x00 ∷ 0x00 ∷ 0x00 ∷ 0x00 ∷ [])
+    ++ (0x00 ∷ 0x00 ∷ 0x00 ∷ 0x0d ∷ 0x46 ∷ 0x61 ∷ 0x6e ∷ 0x20 ∷ 0x72 ∷ 0x65 ∷ 0x61 ∷ 0x72 ∷ 0x20 ∷ 0x6c ∷ 0x65 ∷ 0x66 ∷ 0x74 ∷ [])
+    ++ (0x00 ∷ 0x00 ∷ 0x00 ∷ 0x00 ∷ []))
+    -- its name finds the middle fan, no text the first fan, which has none, and "Fan" nothing
+    ∷ finds fansA rearLeft rearLeft 1
+    ∷ finds fansA rearLeft [] 0
+    ∷ finds fansA rearLeft (0x46 ∷ 0x61 ∷ 0x6e ∷ []) 0xffffffff
+    -- a text of 32 bytes, and one of 33 that fits the page: 6 at its length, and not 12
+    ∷ reads (described 0x34 0x20 (replicate 32 0x7e)) 0 0
+    ∷ reads (described 0x35 0x21 (replicate 33 0x7e)) 6 18
+    -- a byte more or less than its length says: 12
+    ∷ reads (described 0x22 0x0d (rearLeft ++ (0x20 ∷ []))) 12 0
+    ∷ reads (described 0x21 0x0e rearLeft) 12 0
+    -- 20h and 7Eh are printable, 1Fh and 7Fh not: 6 where they stand
+    ∷ reads (described 0x16 0x02 (0x20 ∷ 0x7e ∷ [])) 0 0
+    ∷ reads (described 0x16 0x02 (0x1f ∷ 0x7e ∷ [])) 6 20
+    ∷ reads (described 0x16 0x02 (0x20 ∷ 0x7f ∷ [])) 6 21
     ∷ []

@@ -5,7 +5,7 @@ use Prim.Native.Nat.{ℕ}
 use lib.Dec.{eqb}
 use Rattle.bits.specs.Choice.{pick, firstBelow}
 use Rattle.refusals.specs.declared.Refusal.{Refusal}
-use Rattle.refusals.specs.declared.Refusal.the-variants.{ShelfNotWellFormed, PageTooShort, PageCode, PageLength, Generation, NotAllowed, NoSuchThreshold, ThresholdOrder, WantedList, Unreachable, OutputTooShort, NeededLength}
+use Rattle.refusals.specs.declared.Refusal.the-variants.{ShelfNotWellFormed, PageTooShort, PageCode, PageLength, Generation, NotAllowed, NoSuchThreshold, ThresholdOrder, WantedList, Unreachable, OutputTooShort, NeededLength, NoSuchElement}
 use Rattle.refusals.specs.declared.Answer.{Answer}
 use Rattle.refusals.specs.declared.Answer.the-variants as answer
 use Rattle.refusals.specs.declared.PageAnswer.{PageAnswer}
@@ -39,6 +39,7 @@ older WantedList = WantedList
 older Unreachable = Unreachable
 older OutputTooShort = OutputTooShort
 older NeededLength = PageLength
+older NoSuchElement = NoSuchElement
 
 pub was : PageAnswer → Answer
 was Accepted = answer.Accepted

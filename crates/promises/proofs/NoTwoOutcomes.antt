@@ -2,21 +2,29 @@
 use mathlib.Core.Path.{_≡_, sym, ap, _∙_}
 use mathlib.Core.List.{List}
 use Prim.Native.Nat.{ℕ}
+use Rattle.refusals.specs.declared.Answer.{Answer}
 use Rattle.refusals.specs.declared.PageAnswer.{PageAnswer}
 use Rattle.refusals.specs.declared.Written.{Written}
 use Rattle.refusals.specs.Numbers.{answerNumber, pageNumber, pageOffset, writtenNumber, bytesWritten}
+use Rattle.names.specs.declared.finding.Found.{Found}
+use Rattle.names.specs.Found.{foundNumber, elementFound}
 use Rattle.build_page.specs.declared.built.Built.{Built}
 use Rattle.build_page.specs.Outcome.{builtNumber, bytesBuilt, selectsBuilt}
 use Rattle.build_page.proofs.PromiseKept.{settles}
-use Rattle.promises.specs.Promises.{Check, WriteConfiguration, WriteStatus, WriteThresholds, ReadConfiguration, ReadStatus, ReadThresholds, RewriteConfiguration, RewriteStatus, RewriteThresholds, ApplyControl, ApplyThresholds, BuildControl}
-use Rattle.promises.specs.PromisesForC.{NumberedPage, NumberedWritten, NumberedBuilt, CheckForC, WriteConfigurationForC, WriteStatusForC, WriteThresholdsForC, ReadConfigurationForC, ReadStatusForC, ReadThresholdsForC, RewriteConfigurationForC, RewriteStatusForC, RewriteThresholdsForC, ApplyControlForC, ApplyThresholdsForC, BuildControlForC}
-use Rattle.promises.specs.Settled.{OneAnswer, OneOutcome, OneTold, OneBuilt}
+use Rattle.promises.specs.Promises.{Check, WriteConfiguration, WriteStatus, WriteThresholds, WriteDescriptors, ReadConfiguration, ReadStatus, ReadThresholds, ReadDescriptors, RewriteConfiguration, RewriteStatus, RewriteThresholds, RewriteDescriptors, ApplyControl, ApplyThresholds, BuildControl, FindName, SetName, SetOverallName}
+use Rattle.promises.specs.PromisesForC.{Numbered, NumberedPage, NumberedWritten, NumberedBuilt, CheckForC, WriteConfigurationForC, WriteStatusForC, WriteThresholdsForC, WriteDescriptorsForC, ReadConfigurationForC, ReadStatusForC, ReadThresholdsForC, ReadDescriptorsForC, RewriteConfigurationForC, RewriteStatusForC, RewriteThresholdsForC, RewriteDescriptorsForC, ApplyControlForC, ApplyThresholdsForC, BuildControlForC, FindNameForC, SetNameForC, SetOverallNameForC}
+use Rattle.promises.specs.Settled.{OneAnswer, OneOutcome, OneTold, OneBuilt, OneFound}
 
 -- an answer that is told, and memory that follows from it
 told : {R : Type 0} (a : R) (f : R → List ℕ) → OneOutcome (λ (r : R) (o : List ℕ). (r ≡ a) × (o ≡ f r))
 told a f r q y z h l = let e = h .0 ∙ sym (l .0) in (e, h .1 ∙ ap f e ∙ sym (l .1))
 
 -- so it is for C, whatever the promise
+numbered : {P : Answer → List ℕ → Type 0} → OneOutcome P → OneOutcome (λ (n : ℕ) (o : List ℕ). Numbered (λ r. P r o) n)
+numbered u n m y z h l =
+    let e = u (h .0) (l .0) y z (h .1) (l .1) in
+    (h .2 ∙ ap answerNumber (e .0) ∙ sym (l .2), e .1)
+
 numbered-page : {P : PageAnswer → List ℕ → Type 0} → OneOutcome P → OneTold (λ (n : ℕ) (o : List ℕ) (k : ℕ). NumberedPage (λ r. P r o) n k)
 numbered-page u n m y z b c h l =
     let e = u (h .0) (l .0) y z (h .1) (l .1) in
@@ -51,6 +59,9 @@ write-status shelf out = told _ _
 pub write-thresholds : (shelf out : List ℕ) → OneOutcome (WriteThresholds shelf out)
 write-thresholds shelf out = told _ _
 
+pub write-descriptors : (shelf out : List ℕ) → OneOutcome (WriteDescriptors shelf out)
+write-descriptors shelf out = told _ _
+
 pub read-configuration : (page configuration : List ℕ) → OneOutcome (ReadConfiguration page configuration)
 read-configuration page configuration = told _ _
 
@@ -59,6 +70,9 @@ read-status configuration page fields = told _ _
 
 pub read-thresholds : (configuration page fields : List ℕ) → OneOutcome (ReadThresholds configuration page fields)
 read-thresholds configuration page fields = told _ _
+
+pub read-descriptors : (configuration page fields : List ℕ) → OneOutcome (ReadDescriptors configuration page fields)
+read-descriptors configuration page fields = told _ _
 
 pub rewrite-configuration : (configuration out : List ℕ) → OneOutcome (RewriteConfiguration configuration out)
 rewrite-configuration configuration out = told _ _
@@ -69,6 +83,9 @@ rewrite-status configuration fields out = told _ _
 pub rewrite-thresholds : (configuration fields out : List ℕ) → OneOutcome (RewriteThresholds configuration fields out)
 rewrite-thresholds configuration fields out = told _ _
 
+pub rewrite-descriptors : (configuration fields out : List ℕ) → OneOutcome (RewriteDescriptors configuration fields out)
+rewrite-descriptors configuration fields out = told _ _
+
 pub apply-control : (shelf page : List ℕ) → OneOutcome (ApplyControl shelf page)
 apply-control shelf page = told _ _
 
@@ -77,6 +94,15 @@ apply-thresholds shelf page = told _ _
 
 pub build-control : (shelf wanted out : List ℕ) → OneOutcome (BuildControl shelf wanted out)
 build-control shelf wanted out = settles shelf wanted out
+
+pub find-name : (shelf text : List ℕ) → OneAnswer (FindName shelf text)
+find-name shelf text r q h l = h ∙ sym l
+
+pub set-name : (shelf : List ℕ) (element : ℕ) (text : List ℕ) → OneOutcome (SetName shelf element text)
+set-name shelf element text = told _ _
+
+pub set-overall-name : (shelf : List ℕ) (number : ℕ) (text : List ℕ) → OneOutcome (SetOverallName shelf number text)
+set-overall-name shelf number text = told _ _
 
 -- for C
 
@@ -92,6 +118,9 @@ ses-write-status shelf out = numbered-written (write-status shelf out)
 pub ses-write-thresholds : (shelf out : List ℕ) → OneTold (WriteThresholdsForC shelf out)
 ses-write-thresholds shelf out = numbered-written (write-thresholds shelf out)
 
+pub ses-write-descriptors : (shelf out : List ℕ) → OneTold (WriteDescriptorsForC shelf out)
+ses-write-descriptors shelf out = numbered-written (write-descriptors shelf out)
+
 pub ses-read-configuration : (page configuration : List ℕ) → OneTold (ReadConfigurationForC page configuration)
 ses-read-configuration page configuration = numbered-page (read-configuration page configuration)
 
@@ -100,6 +129,9 @@ ses-read-status configuration page fields = numbered-page (read-status configura
 
 pub ses-read-thresholds : (configuration page fields : List ℕ) → OneTold (ReadThresholdsForC configuration page fields)
 ses-read-thresholds configuration page fields = numbered-page (read-thresholds configuration page fields)
+
+pub ses-read-descriptors : (configuration page fields : List ℕ) → OneTold (ReadDescriptorsForC configuration page fields)
+ses-read-descriptors configuration page fields = numbered-page (read-descriptors configuration page fields)
 
 pub ses-rewrite-configuration : (configuration out : List ℕ) → OneTold (RewriteConfigurationForC configuration out)
 ses-rewrite-configuration configuration out = numbered-written (rewrite-configuration configuration out)
@@ -110,6 +142,9 @@ ses-rewrite-status configuration fields out = numbered-written (rewrite-status c
 pub ses-rewrite-thresholds : (configuration fields out : List ℕ) → OneTold (RewriteThresholdsForC configuration fields out)
 ses-rewrite-thresholds configuration fields out = numbered-written (rewrite-thresholds configuration fields out)
 
+pub ses-rewrite-descriptors : (configuration fields out : List ℕ) → OneTold (RewriteDescriptorsForC configuration fields out)
+ses-rewrite-descriptors configuration fields out = numbered-written (rewrite-descriptors configuration fields out)
+
 pub ses-apply-control : (shelf page : List ℕ) → OneTold (ApplyControlForC shelf page)
 ses-apply-control shelf page = numbered-page (apply-control shelf page)
 
@@ -118,3 +153,14 @@ ses-apply-thresholds shelf page = numbered-page (apply-thresholds shelf page)
 
 pub ses-build-control : (shelf wanted out : List ℕ) → OneBuilt (BuildControlForC shelf wanted out)
 ses-build-control shelf wanted out = numbered-built (build-control shelf wanted out)
+
+pub ses-find-name : (shelf text : List ℕ) → OneFound (FindNameForC shelf text)
+ses-find-name shelf text n m b c h l =
+    let e : _≡_ {A = Found} (h .0) (l .0) = find-name shelf text (h .0) (l .0) (h .1) (l .1) in
+    (h .2 ∙ ap foundNumber e ∙ sym (l .2), h .3 ∙ ap elementFound e ∙ sym (l .3))
+
+pub ses-set-name : (shelf : List ℕ) (element : ℕ) (text : List ℕ) → OneOutcome (SetNameForC shelf element text)
+ses-set-name shelf element text = numbered (set-name shelf element text)
+
+pub ses-set-overall-name : (shelf : List ℕ) (number : ℕ) (text : List ℕ) → OneOutcome (SetOverallNameForC shelf number text)
+ses-set-overall-name shelf number text = numbered (set-overall-name shelf number text)

@@ -1,4 +1,4 @@
--- Each of the five pages is answered by the one order of tests. Assumes nothing.
+-- Each of the six pages is answered by the one order of tests. Assumes nothing.
 use mathlib.Core.Path.{_≡_, refl, sym, ap, _∙_}
 use mathlib.Core.Bool.{Bool, true, false}
 use mathlib.Core.List.{List}
@@ -15,12 +15,13 @@ use Rattle.shelf_formed.specs.Formed.{wellFormed, configurationFormed}
 use Rattle.page.specs.Slots.{slotsOf, slotPlace}
 use Rattle.page.specs.Header.{lengthSaid, generationOn, generationOf, sizeTested, codeTested, saidTested, framed, lengthTested, generationTested, headed, pageTested, configurationTested}
 use Rattle.configuration_page.specs.Read as configuration
+use Rattle.descriptor_record.specs.Read as names
 use Rattle.status_reading.specs.Read as status
 use Rattle.threshold_rows.specs.Rows as rows
 use Rattle.threshold_record.specs.Read as limits
 use Rattle.control_page.specs.Tests as control
 use Rattle.threshold_page_out.specs.Tests as thresholds
-use Rattle.promises.specs.Order.{ownOrder, order, inOrder, configurationTests, statusTests, limitTests, controlTests, takenTests}
+use Rattle.promises.specs.Order.{ownOrder, order, inOrder, configurationTests, descriptorTests, statusTests, limitTests, controlTests, takenTests}
 
 -- the stages of the header, as a list of tests
 headStages : Bool → Bool → Bool → Bool → Bool → Answer
@@ -100,6 +101,16 @@ configuration-order p =
     last : (t : Bool) → next (unless t NeededLength Accepted) Accepted ≡ unless t NeededLength Accepted
     last true = refl
     last false = refl
+
+pub descriptor-order : (c p : List ℕ) → names.namesRead c p ≡ inOrder (descriptorTests c p)
+unfolding names.namesRead names.pageTested names.headTested names.bytesTested framed sizeTested codeTested saidTested lengthTested generationTested headStages
+descriptor-order c p =
+    let n = slotsOf c in
+    let e = names.placeOn p n in
+    let k = firstBelow (names.offends p n) e in
+    ap (λ (x : PageAnswer). pageNext (configurationTested c) (pageNext (names.headTested c p n) x)) (own-order k e true true)
+    ∙ all-order (configurationFormed c) (leb 4 (length p)) (eqb (getD p 0 0) 0x07) (lengthSaid p) (eqb (length p) e) (eqb (generationOn p) (generationOf c))
+    (ownOrder k e true true)
 
 pub status-order : (c p : List ℕ) → status.statusRead c p ≡ inOrder (statusTests c p)
 unfolding status.statusRead status.statusTested status.bytesTested status.offence

@@ -1,4 +1,4 @@
--- Accepted configuration, status and threshold status pages, read and written again, give the same bytes: from what the reader answers
+-- Accepted configuration, status, threshold status and descriptor pages, read and written again, give the same bytes: from what the reader answers
 -- and leaves in the place that was lent to it, to what the rewriter answers and leaves in the output buffer. Assumes nothing.
 use mathlib.Core.Path.{_≡_, sym, ap, ap₂, _∙_}
 use mathlib.Core.List.{List, _++_, append-nil}
@@ -24,7 +24,10 @@ use Rattle.status_rewritten.specs.Rewritten as statusAgain
 use Rattle.threshold_record.specs.Read.{thresholdRead, thresholdRecord}
 use Rattle.threshold_record.specs.Rewritten as thresholdsAgain
 use Rattle.threshold_record.proofs.ReadAndRewritten as thresholds
-use Rattle.promises.specs.Promises.{ReadConfiguration, ReadStatus, ReadThresholds, RewriteConfiguration, RewriteStatus, RewriteThresholds}
+use Rattle.descriptor_record.specs.Read.{namesRead, namesRecord}
+use Rattle.descriptor_record.specs.Rewritten as namesAgain
+use Rattle.descriptor_record.proofs.ReadAndRewritten as names
+use Rattle.promises.specs.Promises.{ReadConfiguration, ReadStatus, ReadThresholds, ReadDescriptors, RewriteConfiguration, RewriteStatus, RewriteThresholds, RewriteDescriptors}
 use Rattle.promises.specs.Demands.{WrittenAgain}
 use Rattle.promises.proofs.StatusRewritten as status
 
@@ -69,4 +72,14 @@ thresholds-again c p old out b d {r} {f} h e g =
     rewritten (thresholdsAgain.recordTested c f) (thresholdsAgain.pageAgain c f) p out
     (ap (thresholdsAgain.recordTested c) (t .1) ∙ thresholds.tested-again c p rest (t .0))
     (ap (thresholdsAgain.pageAgain c) (t .1) ∙ thresholds.page-again c p rest (t .0) b d)
+    g
+
+pub descriptors-again : (c p old out : List ℕ) → Bytes c → Bytes p → {r : PageAnswer} {f : List ℕ} {w : Written} {o : List ℕ}
+    → ReadDescriptors c p old r f → r ≡ page.Accepted → RewriteDescriptors c f out w o → WrittenAgain p out w o
+descriptors-again c p old out b d {r} {f} h e g =
+    let t = handed (namesRead c p) (namesRecord c p) old h e in
+    let rest = drop (length (namesRecord c p)) old in
+    rewritten (namesAgain.recordTested c f) (namesAgain.pageAgain c f) p out
+    (ap (namesAgain.recordTested c) (t .1) ∙ names.tested-again c p rest (t .0))
+    (ap (namesAgain.pageAgain c) (t .1) ∙ names.page-again c p rest (t .0) b d)
     g

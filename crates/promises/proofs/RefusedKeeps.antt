@@ -1,5 +1,5 @@
 -- A refusal leaves what was lent as it was: a theorem for each public call that is lent something to be changed, under its name, in Rattle
--- and for C. Assumes nothing.
+-- and for C; a refused search tells C no element. Assumes nothing.
 use mathlib.Core.Path.{_≡_, refl, sym, ap, _∙_}
 use mathlib.Core.Bool.{Bool, false}
 use mathlib.Core.List.{List}
@@ -12,9 +12,15 @@ use Rattle.refusals.specs.declared.PageAnswer.{PageAnswer}
 use Rattle.refusals.specs.declared.PageAnswer.the-variants as told
 use Rattle.refusals.specs.declared.Written.{Written}
 use Rattle.refusals.specs.declared.Written.the-variants as written
-use Rattle.refusals.specs.Numbers.{pageNumber, writtenNumber, bytesWritten}
+use Rattle.refusals.specs.Numbers.{answerNumber, pageNumber, writtenNumber, bytesWritten}
 use Rattle.refusals.specs.Outcomes.{accepts, Changes}
 use Rattle.shelf.specs.SettingsList.{withSettings}
+use Rattle.page.specs.Slots.{startOf}
+use Rattle.page.specs.Places.{ownSlot}
+use Rattle.names.specs.declared.finding.Found.{Found}
+use Rattle.names.specs.declared.finding.Found.the-variants as found
+use Rattle.names.specs.Found.{noElement, foundNumber, elementFound}
+use Rattle.names.specs.Setting.{nameSet, setIf, elementTested, overallTested}
 use Rattle.control_page.specs.Tests as control
 use Rattle.control_page.specs.Brought as controlled
 use Rattle.threshold_page_out.specs.Taken.{takenFrom, withThresholds}
@@ -23,9 +29,9 @@ use Rattle.build_page.specs.declared.built.Built.{Built}
 use Rattle.build_page.specs.declared.built.Built.the-variants as built
 use Rattle.build_page.specs.Outcome.{builtNumber, bytesBuilt, selectsBuilt}
 use Rattle.build_page.specs.Promise.{wishTested, Answered, Passed}
-use Rattle.promises.specs.Promises.{WriteConfiguration, WriteStatus, WriteThresholds, ReadConfiguration, ReadStatus, ReadThresholds, RewriteConfiguration, RewriteStatus, RewriteThresholds, ApplyControl, ApplyThresholds, BuildControl}
-use Rattle.promises.specs.PromisesForC.{NumberedPage, NumberedWritten, NumberedBuilt, WriteConfigurationForC, WriteStatusForC, WriteThresholdsForC, ReadConfigurationForC, ReadStatusForC, ReadThresholdsForC, RewriteConfigurationForC, RewriteStatusForC, RewriteThresholdsForC, ApplyControlForC, ApplyThresholdsForC, BuildControlForC}
-use Rattle.promises.specs.Settled.{KeptIfRefused, KeptForC, KeptWritten, KeptBuilt}
+use Rattle.promises.specs.Promises.{WriteConfiguration, WriteStatus, WriteThresholds, WriteDescriptors, ReadConfiguration, ReadStatus, ReadThresholds, ReadDescriptors, RewriteConfiguration, RewriteStatus, RewriteThresholds, RewriteDescriptors, ApplyControl, ApplyThresholds, BuildControl, SetName, SetOverallName}
+use Rattle.promises.specs.PromisesForC.{Numbered, NumberedPage, NumberedWritten, NumberedBuilt, WriteConfigurationForC, WriteStatusForC, WriteThresholdsForC, WriteDescriptorsForC, ReadConfigurationForC, ReadStatusForC, ReadThresholdsForC, ReadDescriptorsForC, RewriteConfigurationForC, RewriteStatusForC, RewriteThresholdsForC, RewriteDescriptorsForC, ApplyControlForC, ApplyThresholdsForC, BuildControlForC, FindNameForC, SetNameForC, SetOverallNameForC}
+use Rattle.promises.specs.Settled.{KeptIfRefused, KeptAnswered, KeptForC, KeptWritten, KeptBuilt}
 
 -- a shelf that is changed only where the tests accept
 changes : (a : PageAnswer) (t : Bool) (changed shelf : List ℕ) → t ≡ accepts a → KeptIfRefused told.Refused (Changes a (pick t changed shelf)) shelf
@@ -33,7 +39,19 @@ changes a t changed shelf e x o h =
     let n : t ≡ false = e ∙ ap accepts (sym (h .0)) in
     h .1 ∙ rw n
 
+-- and one in which a name is set
+sets : (a : Answer) (named shelf : List ℕ) → KeptIfRefused answer.Refused (Changes a (setIf a named shelf)) shelf
+sets a named shelf x o h = h .1 ∙ ap (λ (t : Answer). setIf t named shelf) (sym (h .0))
+
 -- for C, whatever the promise
+numbered : (P : Answer → List ℕ → Type 0) {old : List ℕ} → KeptIfRefused answer.Refused P old
+    → KeptAnswered (λ (n : ℕ) (o : List ℕ). Numbered (λ r. P r o) n) old
+numbered P {old} u n o h f = go (h .0) (h .1) (h .2)
+  where
+    go : (r : Answer) → P r o → n ≡ answerNumber r → o ≡ old
+    go answer.Accepted w e = absurd (f e)
+    go (answer.Refused x) w e = u x o w
+
 numbered-page : (P : PageAnswer → List ℕ → Type 0) {old : List ℕ} → KeptIfRefused told.Refused P old
     → KeptForC (λ (n : ℕ) (o : List ℕ) (k : ℕ). NumberedPage (λ r. P r o) n k) old
 numbered-page P {old} u n o k h f = go (h .0) (h .1) (h .2)
@@ -69,6 +87,9 @@ write-status shelf out x o h = h .1
 pub write-thresholds : (shelf out : List ℕ) → KeptIfRefused written.Refused (WriteThresholds shelf out) out
 write-thresholds shelf out x o h = h .1
 
+pub write-descriptors : (shelf out : List ℕ) → KeptIfRefused written.Refused (WriteDescriptors shelf out) out
+write-descriptors shelf out x o h = h .1
+
 pub read-configuration : (page configuration : List ℕ) → KeptIfRefused told.Refused (ReadConfiguration page configuration) configuration
 read-configuration page configuration x o h = h .1
 
@@ -78,6 +99,9 @@ read-status configuration page fields x o h = h .1
 pub read-thresholds : (configuration page fields : List ℕ) → KeptIfRefused told.Refused (ReadThresholds configuration page fields) fields
 read-thresholds configuration page fields x o h = h .1
 
+pub read-descriptors : (configuration page fields : List ℕ) → KeptIfRefused told.Refused (ReadDescriptors configuration page fields) fields
+read-descriptors configuration page fields x o h = h .1
+
 pub rewrite-configuration : (configuration out : List ℕ) → KeptIfRefused written.Refused (RewriteConfiguration configuration out) out
 rewrite-configuration configuration out x o h = h .1
 
@@ -86,6 +110,9 @@ rewrite-status configuration fields out x o h = h .1
 
 pub rewrite-thresholds : (configuration fields out : List ℕ) → KeptIfRefused written.Refused (RewriteThresholds configuration fields out) out
 rewrite-thresholds configuration fields out x o h = h .1
+
+pub rewrite-descriptors : (configuration fields out : List ℕ) → KeptIfRefused written.Refused (RewriteDescriptors configuration fields out) out
+rewrite-descriptors configuration fields out x o h = h .1
 
 pub apply-control : (shelf page : List ℕ) → KeptIfRefused told.Refused (ApplyControl shelf page) shelf
 unfolding control.valid
@@ -108,6 +135,12 @@ build-control shelf wanted out x o h = go (wishTested shelf wanted) h
     go answer.Accepted a = answered a
     go (answer.Refused y) a = a .1
 
+pub set-name : (shelf : List ℕ) (element : ℕ) (text : List ℕ) → KeptIfRefused answer.Refused (SetName shelf element text) shelf
+set-name shelf element text = sets (elementTested shelf element text) (nameSet shelf (ownSlot shelf element) text) shelf
+
+pub set-overall-name : (shelf : List ℕ) (number : ℕ) (text : List ℕ) → KeptIfRefused answer.Refused (SetOverallName shelf number text) shelf
+set-overall-name shelf number text = sets (overallTested shelf number text) (nameSet shelf (startOf shelf number) text) shelf
+
 -- for C
 
 pub ses-write-configuration : (shelf out : List ℕ) → KeptWritten (WriteConfigurationForC shelf out) out
@@ -119,6 +152,9 @@ ses-write-status shelf out = numbered-written (WriteStatus shelf out) (write-sta
 pub ses-write-thresholds : (shelf out : List ℕ) → KeptWritten (WriteThresholdsForC shelf out) out
 ses-write-thresholds shelf out = numbered-written (WriteThresholds shelf out) (write-thresholds shelf out)
 
+pub ses-write-descriptors : (shelf out : List ℕ) → KeptWritten (WriteDescriptorsForC shelf out) out
+ses-write-descriptors shelf out = numbered-written (WriteDescriptors shelf out) (write-descriptors shelf out)
+
 pub ses-read-configuration : (page configuration : List ℕ) → KeptForC (ReadConfigurationForC page configuration) configuration
 ses-read-configuration page configuration = numbered-page (ReadConfiguration page configuration) (read-configuration page configuration)
 
@@ -127,6 +163,9 @@ ses-read-status configuration page fields = numbered-page (ReadStatus configurat
 
 pub ses-read-thresholds : (configuration page fields : List ℕ) → KeptForC (ReadThresholdsForC configuration page fields) fields
 ses-read-thresholds configuration page fields = numbered-page (ReadThresholds configuration page fields) (read-thresholds configuration page fields)
+
+pub ses-read-descriptors : (configuration page fields : List ℕ) → KeptForC (ReadDescriptorsForC configuration page fields) fields
+ses-read-descriptors configuration page fields = numbered-page (ReadDescriptors configuration page fields) (read-descriptors configuration page fields)
 
 pub ses-rewrite-configuration : (configuration out : List ℕ) → KeptWritten (RewriteConfigurationForC configuration out) out
 ses-rewrite-configuration configuration out = numbered-written (RewriteConfiguration configuration out) (rewrite-configuration configuration out)
@@ -137,6 +176,10 @@ ses-rewrite-status configuration fields out = numbered-written (RewriteStatus co
 pub ses-rewrite-thresholds : (configuration fields out : List ℕ) → KeptWritten (RewriteThresholdsForC configuration fields out) out
 ses-rewrite-thresholds configuration fields out = numbered-written (RewriteThresholds configuration fields out) (rewrite-thresholds configuration fields out)
 
+pub ses-rewrite-descriptors : (configuration fields out : List ℕ) → KeptWritten (RewriteDescriptorsForC configuration fields out) out
+ses-rewrite-descriptors configuration fields out =
+    numbered-written (RewriteDescriptors configuration fields out) (rewrite-descriptors configuration fields out)
+
 pub ses-apply-control : (shelf page : List ℕ) → KeptForC (ApplyControlForC shelf page) shelf
 ses-apply-control shelf page = numbered-page (ApplyControl shelf page) (apply-control shelf page)
 
@@ -145,3 +188,17 @@ ses-apply-thresholds shelf page = numbered-page (ApplyThresholds shelf page) (ap
 
 pub ses-build-control : (shelf wanted out : List ℕ) → KeptBuilt (BuildControlForC shelf wanted out) out
 ses-build-control shelf wanted out = numbered-built (BuildControl shelf wanted out) (build-control shelf wanted out)
+
+pub ses-find-name : (shelf text : List ℕ) (n element : ℕ) → FindNameForC shelf text n element → (n ≡ 0 → ⊥) → element ≡ noElement
+ses-find-name shelf text n element h f = go (h .0) (h .2) (h .3)
+  where
+    go : (r : Found) → n ≡ foundNumber r → element ≡ elementFound r → element ≡ noElement
+    go (found.Element j) e d = absurd (f e)
+    go found.Nothing e d = absurd (f e)
+    go (found.Refused x) e d = d
+
+pub ses-set-name : (shelf : List ℕ) (element : ℕ) (text : List ℕ) → KeptAnswered (SetNameForC shelf element text) shelf
+ses-set-name shelf element text = numbered (SetName shelf element text) (set-name shelf element text)
+
+pub ses-set-overall-name : (shelf : List ℕ) (number : ℕ) (text : List ℕ) → KeptAnswered (SetOverallNameForC shelf number text) shelf
+ses-set-overall-name shelf number text = numbered (SetOverallName shelf number text) (set-overall-name shelf number text)

@@ -3,11 +3,11 @@
 use mathlib.Core.Path.{_≡_, refl, sym, ap, _∙_}
 use mathlib.Core.Bool.{Bool, true, false}
 use mathlib.Core.List.{List}
-use Prim.Native.Nat.{ℕ, _<_, _≤_}
+use Prim.Native.Nat.{ℕ, _+_, _<_, _≤_}
 use native.Mathlib.Omega.{arith}
 use lib.Dec.{eqb}
 use lib.ListN.{length}
-use borrow.Author.Tests.{eqb-false, ne-eqb}
+use borrow.Author.Tests.{eqb-true, eqb-false, ne-eqb}
 use Rattle.bits.specs.Choice.{pick, firstBelow}
 use Rattle.bits.specs.Places.{AlikeTo}
 use Rattle.bits.proofs.Logic.{never, pick-no, first-bound, first-passes, first-fails}
@@ -15,8 +15,11 @@ use Rattle.bits.proofs.Offence.{stops-alike}
 use Rattle.refusals.specs.declared.PageAnswer.{PageAnswer}
 use Rattle.refusals.specs.Numbers.{pageNumber, pageOffset}
 use Rattle.refusals.specs.Outcomes.{notAllowedAt}
+use Rattle.page.specs.Slots.{slotsOf}
 use Rattle.configuration_page.specs.Read as configurationSpecs
 use Rattle.configuration_page.proofs.AlikeUpTo as configuration
+use Rattle.descriptor_record.specs.Read as namesSpecs
+use Rattle.descriptor_record.proofs.AlikeUpTo as names
 use Rattle.status_reading.specs.Read as statusSpecs
 use Rattle.status_reading.proofs.FirstOffence as status
 use Rattle.threshold_rows.specs.Rows as rowsSpecs
@@ -25,10 +28,10 @@ use Rattle.threshold_record.specs.Read as limits
 use Rattle.control_page.specs.Tests as controlSpecs
 use Rattle.control_page.proofs.FirstOffence as control
 use Rattle.threshold_page_out.specs.Tests as thresholds
-use Rattle.promises.specs.Promises.{ReadConfiguration, ReadStatus, ReadThresholds, ApplyControl, ApplyThresholds}
-use Rattle.promises.specs.PromisesForC.{NumberedPage, ReadConfigurationForC, ReadStatusForC, ReadThresholdsForC, ApplyControlForC, ApplyThresholdsForC}
-use Rattle.promises.specs.Order.{Tests, ownOrder, order, inOrder, PassesTo6, FirstOffending, OffsetTold, configurationTests, statusTests, limitTests, controlTests, takenTests}
-use Rattle.promises.proofs.PageOrder.{configuration-order, status-order, limit-order, control-order, taken-order}
+use Rattle.promises.specs.Promises.{ReadConfiguration, ReadStatus, ReadThresholds, ReadDescriptors, ApplyControl, ApplyThresholds}
+use Rattle.promises.specs.PromisesForC.{NumberedPage, ReadConfigurationForC, ReadStatusForC, ReadThresholdsForC, ReadDescriptorsForC, ApplyControlForC, ApplyThresholdsForC}
+use Rattle.promises.specs.Order.{Tests, ownOrder, order, inOrder, PassesTo6, FirstOffending, OffsetTold, configurationTests, descriptorTests, statusTests, limitTests, controlTests, takenTests}
+use Rattle.promises.proofs.PageOrder.{configuration-order, descriptor-order, status-order, limit-order, control-order, taken-order}
 
 -- 6, 7 and 8 are not 4, 12 or 0, and 6 tells where
 own-six : (k end : ℕ) (h o : Bool) → pageNumber (ownOrder k end h o) ≡ 6 → (k ≡ end → ⊥) × (pageOffset (ownOrder k end h o) ≡ k)
@@ -190,6 +193,11 @@ pub ses-read-thresholds : (configuration page fields : List ℕ) → OffsetTold 
 unfolding rowsSpecs.offends
 ses-read-thresholds configuration page fields = told-for-c (limitTests configuration page) refl (λ r o h. h .0 ∙ limit-order configuration page)
 
+pub ses-read-descriptors : (configuration page fields : List ℕ) → OffsetTold (descriptorTests configuration page) (ReadDescriptorsForC configuration page fields)
+unfolding namesSpecs.offends
+ses-read-descriptors configuration page fields =
+    told-for-c (descriptorTests configuration page) refl (λ r o h. h .0 ∙ descriptor-order configuration page)
+
 pub ses-apply-control : (shelf page : List ℕ) → OffsetTold (controlTests shelf page) (ApplyControlForC shelf page)
 unfolding controlSpecs.offends
 ses-apply-control shelf page = told-for-c (controlTests shelf page) refl (λ r o h. h .0 ∙ control-order shelf page)
@@ -225,3 +233,15 @@ module _ (p p' : List ℕ) {r : PageAnswer} {o : List ℕ} (q : pageNumber r ≡
   taken-alike s h u =
       taken-order s p'
       ∙ six-alike (takenTests s p) (h .0 ∙ taken-order s p) q (takenTests s p') u refl (rows.byte-alike p p' (pageOffset r) a)
+
+-- Of descriptor pages the byte behind the offset decides too: a length of two bytes is told at its first.
+pub descriptors-alike : (c p p' old : List ℕ) {r : PageAnswer} {o : List ℕ} → pageNumber r ≡ 6 → AlikeTo (pageOffset r + 1) p p' → ReadDescriptors c p old r o
+    → length p' ≡ length p → PassesTo6 (descriptorTests c p') → namesSpecs.namesRead c p' ≡ notAllowedAt (pageOffset r)
+descriptors-alike c p p' old {r} q a h n u =
+    let t = descriptorTests c p in
+    let e = h .0 ∙ descriptor-order c p in
+    let l : t .end ≡ length p = sym (eqb-true (length p) (t .end) (passed t e q .4)) in
+    let l' : descriptorTests c p' .end ≡ length p' = sym (eqb-true (length p') (descriptorTests c p' .end) (u .4)) in
+    let k = six-told t e q .1 in
+    descriptor-order c p'
+    ∙ six-alike t e q (descriptorTests c p') u (l' ∙ n ∙ sym l) (λ i m. names.offends-alike p p' (pageOffset r) a (slotsOf c) i m (omega (arith, m, k)))

@@ -1,4 +1,4 @@
--- The tests of a page, of all five pages alike: the first that does not pass is the answer. Assumes nothing.
+-- The tests of a page, of all six pages alike: the first that does not pass is the answer. Assumes nothing.
 use mathlib.Core.Path.{_≡_}
 use mathlib.Core.Bool.{Bool, true, false}
 use mathlib.Core.List.{List}
@@ -16,6 +16,7 @@ use Rattle.shelf_formed.specs.Formed.{wellFormed, configurationFormed}
 use Rattle.page.specs.Slots.{slotsOf, slotPlace}
 use Rattle.page.specs.Header.{lengthSaid, generationOn, generationOf}
 use Rattle.configuration_page.specs.Read as configuration
+use Rattle.descriptor_record.specs.Read as names
 use Rattle.status_reading.specs.Read as status
 use Rattle.threshold_rows.specs.Rows as rows
 use Rattle.control_page.specs.Tests as control
@@ -102,7 +103,7 @@ slotTests formed c p code offends had ordered = record {
   ordered = ordered;
 }
 
--- of each page: configuration, status, threshold status, control, threshold control
+-- of each page: configuration, names, status, threshold status, control, threshold control
 abbrev pub configurationTests : List ℕ → Tests
 configurationTests p = record {
   formed = true;
@@ -113,6 +114,20 @@ configurationTests p = record {
   generation = true;
   offends = configuration.offends p;
   end = length p;
+  had = true;
+  ordered = true;
+}
+
+abbrev pub descriptorTests : List ℕ → List ℕ → Tests
+descriptorTests c p = record {
+  formed = configurationFormed c;
+  size = leb 4 (length p);
+  code = eqb (getD p 0 0) 0x07;
+  said = lengthSaid p;
+  needed = eqb (length p) (names.placeOn p (slotsOf c));
+  generation = eqb (generationOn p) (generationOf c);
+  offends = names.offends p (slotsOf c);
+  end = names.placeOn p (slotsOf c);
   had = true;
   ordered = true;
 }

@@ -11,6 +11,12 @@ use Rattle.page.specs.Header.{shelfTested, configurationTested}
 use Rattle.configuration_page.specs.Page.{configurationPage}
 use Rattle.configuration_page.specs.Read.{configurationRead}
 use Rattle.configuration_page.specs.Configuration.{configurationOf}
+use Rattle.names.specs.declared.finding.Found.{Found}
+use Rattle.names.specs.Found.{found}
+use Rattle.names.specs.Setting.{elementTested, elementNamed, overallTested, overallNamed}
+use Rattle.descriptor_page.specs.Page.{namesPage}
+use Rattle.descriptor_record.specs.Read.{namesRead, namesRecord}
+use Rattle.descriptor_record.specs.Rewritten as namesAgain
 use Rattle.status_page.specs.Page.{statusPage}
 use Rattle.status_reading.specs.Read.{statusRead, statusRecord}
 use Rattle.status_rewritten.specs.Rewritten as statusAgain
@@ -37,6 +43,9 @@ WriteStatus shelf out r o = WritesPage (shelfTested shelf) (statusPage shelf) ou
 abbrev pub WriteThresholds : List ℕ → List ℕ → Written → List ℕ → Type 0
 WriteThresholds shelf out r o = WritesPage (shelfTested shelf) (thresholdPage shelf) out r o
 
+abbrev pub WriteDescriptors : List ℕ → List ℕ → Written → List ℕ → Type 0
+WriteDescriptors shelf out r o = WritesPage (shelfTested shelf) (namesPage shelf) out r o
+
 -- 2, 3, 4, 12, 6; else the configuration that the page tells
 abbrev pub ReadConfiguration : List ℕ → List ℕ → PageAnswer → List ℕ → Type 0
 ReadConfiguration page old r o = HandsBack (configurationRead page) (configurationOf page) old r o
@@ -48,6 +57,10 @@ ReadStatus configuration page old r o = HandsBack (statusRead configuration page
 -- 1 to 4, 12, 5 to 8; else the record of the thresholds
 abbrev pub ReadThresholds : List ℕ → List ℕ → List ℕ → PageAnswer → List ℕ → Type 0
 ReadThresholds configuration page old r o = HandsBack (thresholdRead configuration page) (thresholdRecord configuration page) old r o
+
+-- 1 to 4, 12, 5, 6; else the record of the names
+abbrev pub ReadDescriptors : List ℕ → List ℕ → List ℕ → PageAnswer → List ℕ → Type 0
+ReadDescriptors configuration page old r o = HandsBack (namesRead configuration page) (namesRecord configuration page) old r o
 
 -- 1, 11; else the page that tells the configuration
 abbrev pub RewriteConfiguration : List ℕ → List ℕ → Written → List ℕ → Type 0
@@ -63,6 +76,11 @@ abbrev pub RewriteThresholds : List ℕ → List ℕ → List ℕ → Written �
 RewriteThresholds configuration fields out r o =
     WritesPage (thresholdsAgain.recordTested configuration fields) (thresholdsAgain.pageAgain configuration fields) out r o
 
+-- 1, 9, 6, 11; else the page with these names
+abbrev pub RewriteDescriptors : List ℕ → List ℕ → List ℕ → Written → List ℕ → Type 0
+RewriteDescriptors configuration fields out r o =
+    WritesPage (namesAgain.recordTested configuration fields) (namesAgain.pageAgain configuration fields) out r o
+
 -- 1 to 4, 12, 5, 6; else the shelf with the settings that the page brings it to
 abbrev pub ApplyControl : List ℕ → List ℕ → PageAnswer → List ℕ → Type 0
 ApplyControl shelf page r o = Changes (control.controlTested shelf page) (controlled.after shelf page) r o
@@ -74,3 +92,14 @@ ApplyThresholds shelf page r o = Changes (thresholds.thresholdsTested shelf page
 -- 1, 9, 10, 11; else the best page that reaches the wish
 abbrev pub BuildControl : List ℕ → List ℕ → List ℕ → Built → List ℕ → Type 0
 BuildControl shelf wanted out r o = Promised shelf wanted out r o
+
+-- 1; else the first element whose name equals the text, or nothing
+abbrev pub FindName : List ℕ → List ℕ → Found → Type 0
+FindName shelf text r = r ≡ found shelf text
+
+-- 1, 15, 6; else the shelf with this name for an element, or for the overall element of a type
+abbrev pub SetName : List ℕ → ℕ → List ℕ → Answer → List ℕ → Type 0
+SetName shelf element text r o = Changes (elementTested shelf element text) (elementNamed shelf element text) r o
+
+abbrev pub SetOverallName : List ℕ → ℕ → List ℕ → Answer → List ℕ → Type 0
+SetOverallName shelf number text r o = Changes (overallTested shelf number text) (overallNamed shelf number text) r o

@@ -7,9 +7,11 @@ use Rattle.refusals.specs.declared.Answer.{Answer}
 use Rattle.refusals.specs.declared.PageAnswer.{PageAnswer}
 use Rattle.refusals.specs.declared.Written.{Written}
 use Rattle.refusals.specs.Numbers.{answerNumber, pageNumber, pageOffset, writtenNumber, bytesWritten}
+use Rattle.names.specs.declared.finding.Found.{Found}
+use Rattle.names.specs.Found.{foundNumber, elementFound}
 use Rattle.build_page.specs.declared.built.Built.{Built}
 use Rattle.build_page.specs.Outcome.{builtNumber, bytesBuilt, selectsBuilt}
-use Rattle.promises.specs.Promises.{Check, WriteConfiguration, WriteStatus, WriteThresholds, ReadConfiguration, ReadStatus, ReadThresholds, RewriteConfiguration, RewriteStatus, RewriteThresholds, ApplyControl, ApplyThresholds, BuildControl}
+use Rattle.promises.specs.Promises.{Check, WriteConfiguration, WriteStatus, WriteThresholds, WriteDescriptors, ReadConfiguration, ReadStatus, ReadThresholds, ReadDescriptors, RewriteConfiguration, RewriteStatus, RewriteThresholds, RewriteDescriptors, ApplyControl, ApplyThresholds, BuildControl, FindName, SetName, SetOverallName}
 
 -- the answer r keeps the promise P
 abbrev pub Numbered : (Answer → Type 0) → ℕ → Type 0
@@ -26,6 +28,10 @@ abbrev pub NumberedBuilt : (Built → Type 0) → ℕ → ℕ → ℕ → Type 0
 NumberedBuilt P number written selects =
     (r : Built) × P r × (number ≡ builtNumber r) × (written ≡ bytesBuilt r) × (selects ≡ selectsBuilt r)
 
+-- of a search, whose element is told too
+abbrev pub NumberedFound : (Found → Type 0) → ℕ → ℕ → Type 0
+NumberedFound P number element = (r : Found) × P r × (number ≡ foundNumber r) × (element ≡ elementFound r)
+
 abbrev pub CheckForC : List ℕ → ℕ → Type 0
 CheckForC shelf number = Numbered (λ r. Check shelf r) number
 
@@ -38,6 +44,9 @@ WriteStatusForC shelf out number o written = NumberedWritten (λ r. WriteStatus 
 abbrev pub WriteThresholdsForC : List ℕ → List ℕ → ℕ → List ℕ → ℕ → Type 0
 WriteThresholdsForC shelf out number o written = NumberedWritten (λ r. WriteThresholds shelf out r o) number written
 
+abbrev pub WriteDescriptorsForC : List ℕ → List ℕ → ℕ → List ℕ → ℕ → Type 0
+WriteDescriptorsForC shelf out number o written = NumberedWritten (λ r. WriteDescriptors shelf out r o) number written
+
 abbrev pub ReadConfigurationForC : List ℕ → List ℕ → ℕ → List ℕ → ℕ → Type 0
 ReadConfigurationForC page old number o offset = NumberedPage (λ r. ReadConfiguration page old r o) number offset
 
@@ -46,6 +55,9 @@ ReadStatusForC configuration page old number o offset = NumberedPage (λ r. Read
 
 abbrev pub ReadThresholdsForC : List ℕ → List ℕ → List ℕ → ℕ → List ℕ → ℕ → Type 0
 ReadThresholdsForC configuration page old number o offset = NumberedPage (λ r. ReadThresholds configuration page old r o) number offset
+
+abbrev pub ReadDescriptorsForC : List ℕ → List ℕ → List ℕ → ℕ → List ℕ → ℕ → Type 0
+ReadDescriptorsForC configuration page old number o offset = NumberedPage (λ r. ReadDescriptors configuration page old r o) number offset
 
 abbrev pub RewriteConfigurationForC : List ℕ → List ℕ → ℕ → List ℕ → ℕ → Type 0
 RewriteConfigurationForC configuration out number o written = NumberedWritten (λ r. RewriteConfiguration configuration out r o) number written
@@ -56,6 +68,9 @@ RewriteStatusForC configuration fields out number o written = NumberedWritten (�
 abbrev pub RewriteThresholdsForC : List ℕ → List ℕ → List ℕ → ℕ → List ℕ → ℕ → Type 0
 RewriteThresholdsForC configuration fields out number o written = NumberedWritten (λ r. RewriteThresholds configuration fields out r o) number written
 
+abbrev pub RewriteDescriptorsForC : List ℕ → List ℕ → List ℕ → ℕ → List ℕ → ℕ → Type 0
+RewriteDescriptorsForC configuration fields out number o written = NumberedWritten (λ r. RewriteDescriptors configuration fields out r o) number written
+
 abbrev pub ApplyControlForC : List ℕ → List ℕ → ℕ → List ℕ → ℕ → Type 0
 ApplyControlForC shelf page number o offset = NumberedPage (λ r. ApplyControl shelf page r o) number offset
 
@@ -64,3 +79,12 @@ ApplyThresholdsForC shelf page number o offset = NumberedPage (λ r. ApplyThresh
 
 abbrev pub BuildControlForC : List ℕ → List ℕ → List ℕ → ℕ → List ℕ → ℕ → ℕ → Type 0
 BuildControlForC shelf wanted out number o written selects = NumberedBuilt (λ r. BuildControl shelf wanted out r o) number written selects
+
+abbrev pub FindNameForC : List ℕ → List ℕ → ℕ → ℕ → Type 0
+FindNameForC shelf text number element = NumberedFound (λ r. FindName shelf text r) number element
+
+abbrev pub SetNameForC : List ℕ → ℕ → List ℕ → ℕ → List ℕ → Type 0
+SetNameForC shelf element text number o = Numbered (λ r. SetName shelf element text r o) number
+
+abbrev pub SetOverallNameForC : List ℕ → ℕ → List ℕ → ℕ → List ℕ → Type 0
+SetOverallNameForC shelf t text number o = Numbered (λ r. SetOverallName shelf t text r o) number

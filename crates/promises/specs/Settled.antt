@@ -19,11 +19,19 @@ OneTold P = (n m : ℕ) (y z : List ℕ) (b c : ℕ) → P n y b → P m z c →
 abbrev pub OneBuilt : (ℕ → List ℕ → ℕ → ℕ → Type 0) → Type 0
 OneBuilt P = (n m : ℕ) (y z : List ℕ) (b c k l : ℕ) → P n y b k → P m z c l → (n ≡ m) × (y ≡ z) × (b ≡ c) × (k ≡ l)
 
+-- of a search the element told, and nothing is lent to be changed
+abbrev pub OneFound : (ℕ → ℕ → Type 0) → Type 0
+OneFound P = (n m b c : ℕ) → P n b → P m c → (n ≡ m) × (b ≡ c)
+
 -- a refusal leaves what was lent as it was
 abbrev pub KeptIfRefused : {X R : Type 0} → (X → R) → (R → List ℕ → Type 0) → List ℕ → Type 0
 KeptIfRefused {X} refused P old = (x : X) (o : List ℕ) → P (refused x) o → o ≡ old
 
--- for C, where a number k is told too
+-- for C
+abbrev pub KeptAnswered : (ℕ → List ℕ → Type 0) → List ℕ → Type 0
+KeptAnswered P old = (n : ℕ) (o : List ℕ) → P n o → (n ≡ 0 → ⊥) → o ≡ old
+
+-- where a number k is told too
 abbrev pub KeptForC : (ℕ → List ℕ → ℕ → Type 0) → List ℕ → Type 0
 KeptForC P old = (n : ℕ) (o : List ℕ) (k : ℕ) → P n o k → (n ≡ 0 → ⊥) → o ≡ old
 

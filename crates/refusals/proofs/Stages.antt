@@ -10,7 +10,9 @@ use Rattle.refusals.specs.declared.Answer.the-variants as answer
 use Rattle.refusals.specs.declared.PageAnswer.{PageAnswer}
 use Rattle.refusals.specs.declared.Tested.{Tested}
 use Rattle.refusals.specs.declared.Tested.the-variants.{Slots, Refused}
-use Rattle.refusals.specs.Outcomes.{next, ofPage, notAllowedAt, offenceTested, pageNext, withSlots, answerOf}
+use Rattle.refusals.specs.declared.Written.{Written}
+use Rattle.refusals.specs.declared.Written.the-variants as written
+use Rattle.refusals.specs.Outcomes.{next, ofPage, notAllowedAt, offenceTested, pageNext, withSlots, answerOf, withBytes}
 
 module _ (x rest : Answer) {a : Answer} (h : a ≡ x) where
   pub stopped : {r : Refusal} → a ≡ answer.Refused r → a ≡ next x rest
@@ -77,3 +79,19 @@ module _ (x : Answer) (m : ℕ) {t : Tested} (h : t ≡ withSlots x m) where
 
     pub count-gone-on : {n : ℕ} {b : Answer} {o : Tested} → t ≡ Slots n → b ≡ rest n → o ≡ withSlots b n → o ≡ withSlots (next x (rest m)) m
     count-gone-on u p q = let e = slots-told u in q ∙ rw (p, e .0, e .1)
+
+-- tests that counted the bytes of a page
+module _ (x : Answer) (m : ℕ) {t : Written} (h : t ≡ withBytes x m) where
+  pub bytes-told : {n : ℕ} → t ≡ written.Bytes n → (x ≡ answer.Accepted) × (n ≡ m)
+  bytes-told {n} u = go x (sym u ∙ h)
+    where
+      go : (y : Answer) → written.Bytes n ≡ withBytes y m → (y ≡ answer.Accepted) × (n ≡ m)
+      go answer.Accepted e = (refl, cc)
+      go (answer.Refused r) e = let z : _≡_ {A = ℕ} 0 1 = cc in absurd (omega arith)
+
+  pub bytes-refused : {r : Refusal} → t ≡ written.Refused r → x ≡ answer.Refused r
+  bytes-refused {r} u = go x (sym u ∙ h)
+    where
+      go : (y : Answer) → written.Refused r ≡ withBytes y m → y ≡ answer.Refused r
+      go answer.Accepted e = let z : _≡_ {A = ℕ} 0 1 = cc in absurd (omega arith)
+      go (answer.Refused q) e = cc

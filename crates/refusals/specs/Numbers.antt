@@ -1,7 +1,7 @@
 -- The table of refusal numbers. Assumes nothing.
 use Prim.Native.Nat.{ℕ}
 use Rattle.refusals.specs.declared.Refusal.{Refusal}
-use Rattle.refusals.specs.declared.Refusal.the-variants.{ShelfNotWellFormed, PageTooShort, PageCode, PageLength, Generation, NotAllowed, NoSuchThreshold, ThresholdOrder, WantedList, Unreachable, OutputTooShort, NeededLength}
+use Rattle.refusals.specs.declared.Refusal.the-variants.{ShelfNotWellFormed, PageTooShort, PageCode, PageLength, Generation, NotAllowed, NoSuchThreshold, ThresholdOrder, WantedList, Unreachable, OutputTooShort, NeededLength, NoSuchElement}
 use Rattle.refusals.specs.declared.Answer.{Answer}
 use Rattle.refusals.specs.declared.Answer.the-variants.{Accepted, Refused}
 use Rattle.refusals.specs.declared.PageAnswer.{PageAnswer}
@@ -22,6 +22,7 @@ numberOf WantedList = 9
 numberOf Unreachable = 10
 numberOf OutputTooShort = 11
 numberOf NeededLength = 12
+numberOf NoSuchElement = 15
 
 abbrev pub answerNumber : Answer → ℕ
 answerNumber Accepted = 0

@@ -65,10 +65,14 @@ abbrev pub writes : Answer → List ℕ → List ℕ → Written
 writes answer.Accepted page out = fitted (length page) (length out)
 writes (answer.Refused r) page out = written.Refused r
 
+-- the answer of tests that counted the n bytes of a page
+abbrev pub withBytes : Answer → ℕ → Written
+withBytes answer.Accepted n = written.Bytes n
+withBytes (answer.Refused r) n = written.Refused r
+
 -- a refusal of the tests, as the answer of the call that writes
 abbrev pub passedOn : Answer → Written
-passedOn answer.Accepted = written.Bytes 0
-passedOn (answer.Refused r) = written.Refused r
+passedOn a = withBytes a 0
 
 -- the answer of such a call, without its bytes
 abbrev pub writtenAnswer : Written → Answer
@@ -99,6 +103,6 @@ WritesPage a page out r o = (r ≡ writes a page out) × (o ≡ outAfter r page 
 abbrev pub HandsBack : PageAnswer → List ℕ → List ℕ → PageAnswer → List ℕ → Type 0
 HandsBack a told old r o = (r ≡ a) × (o ≡ recordAfter r told old)
 
--- a shelf is changed to what it is after the call
-abbrev pub Changes : PageAnswer → List ℕ → PageAnswer → List ℕ → Type 0
+-- a shelf is changed to what it is after the call; A are the answers of calls on a page, or of others
+abbrev pub Changes : {A : Type 0} → A → List ℕ → A → List ℕ → Type 0
 Changes a after r o = (r ≡ a) × (o ≡ after)

@@ -20,6 +20,7 @@ pub enum Refusal {
     Unreachable,
     OutputTooShort,
     NeededLength,
+    NoSuchElement,
 }
 
 pub enum Answer {
@@ -67,6 +68,7 @@ impl Refusal {
             Refusal::Unreachable => 10,
             Refusal::OutputTooShort => 11,
             Refusal::NeededLength => 12,
+            Refusal::NoSuchElement => 15,
         }
     }
 }

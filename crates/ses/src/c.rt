@@ -1,7 +1,7 @@
-// The public calls for C: a refusal is told by its number; bytes written, SELECTs and the offset of an offending byte through
-// references. An offset is 0 unless a refusal tells it.
+// The public calls for C: a refusal is told by its number; bytes written, SELECTs, the offset of an offending byte and an element
+// found through references. An offset is 0 unless a refusal tells it.
 use shelf::limits;
-ghost use Rattle.promises.specs.PromisesForC.{CheckForC, WriteConfigurationForC, WriteStatusForC, WriteThresholdsForC, ReadConfigurationForC, ReadStatusForC, ReadThresholdsForC, RewriteConfigurationForC, RewriteStatusForC, RewriteThresholdsForC, ApplyControlForC, ApplyThresholdsForC, BuildControlForC};
+ghost use Rattle.promises.specs.PromisesForC.{CheckForC, WriteConfigurationForC, WriteStatusForC, WriteThresholdsForC, WriteDescriptorsForC, ReadConfigurationForC, ReadStatusForC, ReadThresholdsForC, ReadDescriptorsForC, RewriteConfigurationForC, RewriteStatusForC, RewriteThresholdsForC, RewriteDescriptorsForC, ApplyControlForC, ApplyThresholdsForC, BuildControlForC, FindNameForC, SetNameForC, SetOverallNameForC};
 
 #[no_mangle]
 pub extern "C" fn ses_check(shelf: &[u8]) -> u8
@@ -33,6 +33,15 @@ pub extern "C" fn ses_write_thresholds(shelf: &[u8], out: &mut [u8], written: &m
     ensures { λ r. ⌜ WriteThresholdsForC (now (shelf .entry)) (now (out .entry)) r (now (out .exit)) (now (written .exit)) ⌝ }
 {
     let answer = crate::write_thresholds(shelf, out);
+    *written = answer.bytes();
+    answer.number()
+}
+
+#[no_mangle]
+pub extern "C" fn ses_write_descriptors(shelf: &[u8], out: &mut [u8], written: &mut u32) -> u8
+    ensures { λ r. ⌜ WriteDescriptorsForC (now (shelf .entry)) (now (out .entry)) r (now (out .exit)) (now (written .exit)) ⌝ }
+{
+    let answer = crate::write_descriptors(shelf, out);
     *written = answer.bytes();
     answer.number()
 }
@@ -73,6 +82,19 @@ pub extern "C" fn ses_read_thresholds(
 {
     *offset = 0;
     crate::read_thresholds(configuration, page, fields).tell(offset)
+}
+
+#[no_mangle]
+pub extern "C" fn ses_read_descriptors(
+    configuration: &[u8],
+    page: &[u8],
+    fields: &mut [u8; descriptor_record::reading::LENGTH],
+    offset: &mut u32,
+) -> u8
+    ensures { λ r. ⌜ ReadDescriptorsForC (now (configuration .entry)) (now (page .entry)) (now (fields .entry)) r (now (fields .exit)) (now (offset .exit)) ⌝ }
+{
+    *offset = 0;
+    crate::read_descriptors(configuration, page, fields).tell(offset)
 }
 
 #[no_mangle]
@@ -117,6 +139,20 @@ pub extern "C" fn ses_rewrite_thresholds(
 }
 
 #[no_mangle]
+pub extern "C" fn ses_rewrite_descriptors(
+    configuration: &[u8],
+    fields: &[u8; descriptor_record::reading::LENGTH],
+    out: &mut [u8],
+    written: &mut u32,
+) -> u8
+    ensures { λ r. ⌜ RewriteDescriptorsForC (now (configuration .entry)) (now (fields .entry)) (now (out .entry)) r (now (out .exit)) (now (written .exit)) ⌝ }
+{
+    let answer = crate::rewrite_descriptors(configuration, fields, out);
+    *written = answer.bytes();
+    answer.number()
+}
+
+#[no_mangle]
 pub extern "C" fn ses_apply_control(shelf: &mut [u8], page: &[u8], offset: &mut u32) -> u8
     ensures { λ r. ⌜ ApplyControlForC (now (shelf .entry)) (now (page .entry)) r (now (shelf .exit)) (now (offset .exit)) ⌝ }
 {
@@ -146,4 +182,27 @@ pub extern "C" fn ses_build_control(
     *written = built.bytes();
     *selects = built.selects();
     built.number()
+}
+
+#[no_mangle]
+pub extern "C" fn ses_find_name(shelf: &[u8], text: &[u8], element: &mut u32) -> u8
+    ensures { λ r. ⌜ FindNameForC (now (shelf .entry)) (now (text .entry)) r (now (element .exit)) ⌝ }
+{
+    let found = crate::find_name(shelf, text);
+    *element = found.element();
+    found.number()
+}
+
+#[no_mangle]
+pub extern "C" fn ses_set_name(shelf: &mut [u8], element: u32, text: &[u8]) -> u8
+    ensures { λ r. ⌜ SetNameForC (now (shelf .entry)) element (now (text .entry)) r (now (shelf .exit)) ⌝ }
+{
+    crate::set_name(shelf, element, text).number()
+}
+
+#[no_mangle]
+pub extern "C" fn ses_set_overall_name(shelf: &mut [u8], number: u32, text: &[u8]) -> u8
+    ensures { λ r. ⌜ SetOverallNameForC (now (shelf .entry)) number (now (text .entry)) r (now (shelf .exit)) ⌝ }
+{
+    crate::set_overall_name(shelf, number, text).number()
 }

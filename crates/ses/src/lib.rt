@@ -4,13 +4,14 @@
 pub mod c;
 
 use build_page::built::Built;
+use names::finding::Found;
 use page::testing;
 use refusals::Answer;
 use refusals::PageAnswer;
 use refusals::Tested;
 use refusals::Written;
 use shelf::limits;
-ghost use Rattle.promises.specs.Promises.{Check, WriteConfiguration, WriteStatus, WriteThresholds, ReadConfiguration, ReadStatus, ReadThresholds, RewriteConfiguration, RewriteStatus, RewriteThresholds, ApplyControl, ApplyThresholds, BuildControl};
+ghost use Rattle.promises.specs.Promises.{Check, WriteConfiguration, WriteStatus, WriteThresholds, WriteDescriptors, ReadConfiguration, ReadStatus, ReadThresholds, ReadDescriptors, RewriteConfiguration, RewriteStatus, RewriteThresholds, RewriteDescriptors, ApplyControl, ApplyThresholds, BuildControl, FindName, SetName, SetOverallName};
 
 // Is this block a well-formed shelf?
 pub fn check(shelf: &[u8]) -> Answer
@@ -41,6 +42,13 @@ pub fn write_thresholds(shelf: &[u8], out: &mut [u8]) -> Written
     threshold_page_in::writing::write(shelf, out)
 }
 
+// The names, on the Element Descriptor page.
+pub fn write_descriptors(shelf: &[u8], out: &mut [u8]) -> Written
+    ensures { λ r. ⌜ WriteDescriptors (now (shelf .entry)) (now (out .entry)) r (now (out .exit)) ⌝ }
+{
+    descriptor_page::writing::write_shelf(shelf, out)
+}
+
 pub fn read_configuration(
     page: &[u8],
     configuration: &mut [u8; limits::CONFIGURATION],
@@ -68,6 +76,16 @@ pub fn read_thresholds(
     ensures { λ r. ⌜ ReadThresholds (now (configuration .entry)) (now (page .entry)) (now (fields .entry)) r (now (fields .exit)) ⌝ }
 {
     threshold_record::reading::read(configuration, page, fields)
+}
+
+pub fn read_descriptors(
+    configuration: &[u8],
+    page: &[u8],
+    fields: &mut [u8; descriptor_record::reading::LENGTH],
+) -> PageAnswer
+    ensures { λ r. ⌜ ReadDescriptors (now (configuration .entry)) (now (page .entry)) (now (fields .entry)) r (now (fields .exit)) ⌝ }
+{
+    descriptor_record::reading::read(configuration, page, fields)
 }
 
 // The `rewrite` calls write again what a reader handed back.
@@ -101,6 +119,16 @@ pub fn rewrite_thresholds(
     threshold_record::rewriting::write(configuration, fields, out)
 }
 
+pub fn rewrite_descriptors(
+    configuration: &[u8],
+    fields: &[u8; descriptor_record::reading::LENGTH],
+    out: &mut [u8],
+) -> Written
+    ensures { λ r. ⌜ RewriteDescriptors (now (configuration .entry)) (now (fields .entry)) (now (out .entry)) r (now (out .exit)) ⌝ }
+{
+    descriptor_record::rewriting::write(configuration, fields, out)
+}
+
 // The `apply` calls act on the shelf in place, and on all of it or nothing.
 pub fn apply_control(shelf: &mut [u8], page: &[u8]) -> PageAnswer
     ensures { λ r. ⌜ ApplyControl (now (shelf .entry)) (now (page .entry)) r (now (shelf .exit)) ⌝ }
@@ -119,4 +147,24 @@ pub fn build_control(shelf: &[u8], wanted: &[u8], out: &mut [u8]) -> Built
     ensures { λ r. ⌜ BuildControl (now (shelf .entry)) (now (wanted .entry)) (now (out .entry)) r (now (out .exit)) ⌝ }
 {
     build_page::build(shelf, wanted, out)
+}
+
+// The first element with this name.
+pub fn find_name(shelf: &[u8], text: &[u8]) -> Found
+    ensures { λ r. ⌜ FindName (now (shelf .entry)) (now (text .entry)) r ⌝ }
+{
+    names::finding::find(shelf, text)
+}
+
+pub fn set_name(shelf: &mut [u8], element: u32, text: &[u8]) -> Answer
+    ensures { λ r. ⌜ SetName (now (shelf .entry)) element (now (text .entry)) r (now (shelf .exit)) ⌝ }
+{
+    names::setting::of_element(shelf, element, text)
+}
+
+// The name of the overall element of a type, which is counted from 0 like an element.
+pub fn set_overall_name(shelf: &mut [u8], number: u32, text: &[u8]) -> Answer
+    ensures { λ r. ⌜ SetOverallName (now (shelf .entry)) number (now (text .entry)) r (now (shelf .exit)) ⌝ }
+{
+    names::setting::of_overall(shelf, number, text)
 }

@@ -33,6 +33,14 @@ elementPlace j = typePlace mostTypes + 16 * j
 abbrev pub thresholdsPlace : ℕ → ℕ
 thresholdsPlace j = elementPlace j + 4
 
+-- behind n elements the names, as many bytes for each as a name can have: name i, in the order of the slots of a page
+abbrev pub namePlace : ℕ → ℕ → ℕ
+namePlace n i = elementPlace n + mostText * i
+
+-- a block of t types and n elements has a name for each
+abbrev pub blockLength : ℕ → ℕ → ℕ
+blockLength t n = namePlace n (t + n)
+
 -- so many bytes has the block s: those of all types, of type t its first four, the room for its text, and those of element j
 abbrev pub HasTypes : List ℕ → Type 0
 HasTypes s = typePlace mostTypes ≤ length s

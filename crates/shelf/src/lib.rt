@@ -5,4 +5,5 @@
 pub mod elements;
 pub mod limits;
 pub mod settings_list;
+pub mod texts;
 pub mod types;

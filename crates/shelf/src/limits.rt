@@ -1,7 +1,7 @@
 // The limits of a shelf record, and the places that follow from them. They stand here and, for the
 // contracts, in specs/Limits.antt.
 ghost use mathlib.Core.Path.{_≡_};
-ghost use Rattle.shelf.specs.Limits.{typePlace, textPlace, elementPlace};
+ghost use Rattle.shelf.specs.Limits.{typePlace, textPlace, elementPlace, namePlace, blockLength};
 
 pub const MOST_TYPES: u16 = 8;
 
@@ -38,7 +38,10 @@ const ELEMENT_SIZE: u32 = 16;
 // The bytes of a configuration: the block up to its first element.
 pub const CONFIGURATION: usize = FIRST_ELEMENT as usize;
 
-pub const LONGEST_BLOCK: usize = CONFIGURATION + ELEMENT_SIZE as usize * MOST_ELEMENTS as usize;
+// All elements, and a name for each slot.
+pub const LONGEST_BLOCK: usize = CONFIGURATION
+    + ELEMENT_SIZE as usize * MOST_ELEMENTS as usize
+    + MOST_TEXT as usize * MOST_SLOTS as usize;
 
 // Four bytes of settings for each element.
 pub const LONGEST_WANTED_LIST: usize = 4 * MOST_ELEMENTS as usize;
@@ -48,6 +51,9 @@ pub const LONGEST_SLOT_PAGE: usize = 8 + 4 * MOST_SLOTS as usize;
 
 // Its head, and for each type a header of four bytes and a text.
 pub const LONGEST_CONFIGURATION_PAGE: usize = 48 + (4 + MOST_TEXT as usize) * MOST_TYPES as usize;
+
+// Its head, and for each slot a descriptor of four bytes and a name.
+pub const LONGEST_DESCRIPTOR_PAGE: usize = 8 + (4 + MOST_TEXT as usize) * MOST_SLOTS as usize;
 
 pub fn type_place(t: u16) -> u32
     ensures { λ r. ⌜ r ≡ typePlace t ⌝ }
@@ -67,9 +73,16 @@ pub fn element_place(j: u16) -> u32
     FIRST_ELEMENT + ELEMENT_SIZE * j as u32
 }
 
-// A shelf of n elements ends where element n would start.
-pub fn block_length(n: u16) -> usize
-    ensures { λ r. ⌜ r ≡ elementPlace n ⌝ }
+// Where name i of a shelf of n elements stands.
+pub fn name_place(n: u16, i: u16) -> u32
+    ensures { λ r. ⌜ r ≡ namePlace n i ⌝ }
 {
-    element_place(n) as usize
+    element_place(n) + MOST_TEXT as u32 * i as u32
+}
+
+// A shelf of t types and n elements ends behind its last name.
+pub fn block_length(t: u16, n: u16) -> usize
+    ensures { λ r. ⌜ r ≡ blockLength t n ⌝ }
+{
+    (element_place(n) + MOST_TEXT as u32 * (t as u32 + n as u32)) as usize
 }

@@ -38,18 +38,27 @@ pub fn text_length(shelf: &[u8], t: u16) -> u8
     bits::byte_at(shelf, limits::type_place(t) + 2)
 }
 
+// How many elements the first n types have.
+pub fn elements_before(shelf: &[u8], n: u16) -> u16
+    requires { ⌜ HasTypes (now shelf) ⌝ }
+    requires { ⌜ n ≤ mostTypes ⌝ }
+    ensures { λ r. ⌜ r ≡ before (now (shelf .entry)) n ⌝ }
+{
+    let mut sum: u16 = 0;
+    let mut t: u16 = 0;
+    while t < n {
+        sum += elements_of(shelf, t) as u16;
+        t += 1;
+    }
+    sum
+}
+
 // How many elements all types have.
 pub fn all_elements(shelf: &[u8]) -> u16
     requires { ⌜ HasTypes (now shelf) ⌝ }
     ensures { λ r. ⌜ r ≡ elementsOf (now (shelf .entry)) ⌝ }
 {
-    let mut sum: u16 = 0;
-    let mut t: u16 = 0;
-    while t < limits::MOST_TYPES {
-        sum += elements_of(shelf, t) as u16;
-        t += 1;
-    }
-    sum
+    elements_before(shelf, limits::MOST_TYPES)
 }
 
 // A type with its elements: those from `before` up to `end`. Its number is wide: eight bytes the compiler would pack into one register and
@@ -95,6 +104,14 @@ fn run_from(shelf: &[u8], t: u16, start: u16, j: u16) -> Run
     }
     let end = before + elements_of(shelf, number) as u16;
     run_with(shelf, number, before, end)
+}
+
+// The run of element j, without a walk.
+pub fn run_of(shelf: &[u8], j: u16) -> Run
+    requires { ⌜ HasElement (now shelf) j ⌝ }
+    ensures { λ r. ⌜ r ≡ runAt (now (shelf .entry)) j ⌝ }
+{
+    run_from(shelf, 0, 0, j)
 }
 
 // The first type, from which a walk starts.

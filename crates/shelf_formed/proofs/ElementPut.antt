@@ -9,8 +9,8 @@ use lib.ListN.{length, getD}
 use borrow.Author.Tests.{eqb-true}
 use Rattle.bits.proofs.Logic.{and-left, and-right}
 use Rattle.bits.proofs.FourPut.{Outside, length-put, put-other, put-back}
-use Rattle.shelf.specs.Limits.{mostTypes, elementPlace}
-use Rattle.shelf.specs.Types.{elementsOf}
+use Rattle.shelf.specs.Limits.{mostTypes, elementPlace, blockLength}
+use Rattle.shelf.specs.Types.{typesOf, elementsOf}
 use Rattle.shelf.specs.Elements.{settingsAt, thresholdsAt, settingsPut, thresholdsPut}
 use Rattle.shelf_formed.specs.declared.Sizes.{Sizes}
 use Rattle.shelf_formed.specs.declared.Opened.the-variants.{Shelf}
@@ -19,12 +19,12 @@ use Rattle.shelf_formed.proofs.Opening.{formed-sizes}
 use Rattle.shelf_formed.proofs.FormedShelf.{few-types}
 use Rattle.shelf_formed.proofs.ElementTypes.{front-formed}
 
--- a well-formed shelf has just the bytes that its elements need
-pub length-formed : (s : List ℕ) → wellFormed s ≡ true → length s ≡ elementPlace (elementsOf s)
+-- a well-formed shelf has just the bytes that its elements and names need
+pub length-formed : (s : List ℕ) → wellFormed s ≡ true → length s ≡ blockLength (typesOf s) (elementsOf s)
 unfolding wellFormed
 length-formed s h =
-    let l = eqb (length s) (elementPlace (elementsOf s)) in
-    eqb-true (length s) (elementPlace (elementsOf s)) (and-right (frontFormed s) l (and-left (frontFormed s && l) (elementsFormed s (elementsOf s)) h))
+    let l = eqb (length s) (blockLength (typesOf s) (elementsOf s)) in
+    eqb-true (length s) (blockLength (typesOf s) (elementsOf s)) (and-right (frontFormed s) l (and-left (frontFormed s && l) (elementsFormed s (elementsOf s)) h))
 
 -- all types are there
 pub shelf-there : (s : List ℕ) → wellFormed s ≡ true → HasFront s

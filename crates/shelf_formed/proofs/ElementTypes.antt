@@ -10,7 +10,7 @@ use borrow.Author.Tests.{ltb-true, ltb-false}
 use Rattle.bits.proofs.Logic.{by-case, and-left}
 use Rattle.bits.proofs.Ends.{part-start, part-end, part-there, part-is}
 use Rattle.element.specs.Types.{served}
-use Rattle.shelf.specs.Limits.{mostTypes, elementPlace}
+use Rattle.shelf.specs.Limits.{mostTypes, blockLength}
 use Rattle.shelf.specs.Types.{typesOf, typeCode, typeCount, before, elementsOf, typeOf}
 use Rattle.shelf.proofs.ElementsBefore.{before-none, before-next, before-up}
 use Rattle.shelf_formed.specs.Formed.{elementsFormed, frontFormed, wellFormed}
@@ -41,7 +41,7 @@ typed s t j l a b = part-is (before s) j mostTypes (before-up s) t l a b
 pub front-formed : (s : List ℕ) → wellFormed s ≡ true → frontFormed s ≡ true
 unfolding wellFormed
 front-formed s w =
-    let l = eqb (length s) (elementPlace (elementsOf s)) in
+    let l = eqb (length s) (blockLength (typesOf s) (elementsOf s)) in
     and-left (frontFormed s) l (and-left (frontFormed s && l) (elementsFormed s (elementsOf s)) w)
 
 module _ (s : List ℕ) (j : ℕ) (w : frontFormed s ≡ true) (h : j < elementsOf s) where

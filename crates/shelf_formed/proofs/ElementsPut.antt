@@ -1,5 +1,5 @@
 -- A shelf after four bytes of each of its first n elements were put anew, from the offset o of an element on. Assumes nothing.
-use mathlib.Core.Path.{_≡_, refl, sym, ap, _∙_}
+use mathlib.Core.Path.{_≡_, refl, sym, ap, ap₂, _∙_}
 use mathlib.Core.Bool.{Bool, true, false, _&&_}
 use mathlib.Core.List.{List}
 use mathlib.Core.Logic.{_⊎_, inl, inr, ⊎-elim}
@@ -18,23 +18,24 @@ use Rattle.bits.proofs.FoursPut.{Apart, four-byte, length-fours, byte-kept, fou
 use Rattle.element.specs.Types.{readingAllowed, nominalAllowed}
 use Rattle.element.specs.Settings.{settingsFormed}
 use Rattle.element.specs.Types.{had, ordered}
-use Rattle.shelf.specs.Limits.{elementPlace}
-use Rattle.shelf.specs.Types.{elementsOf, kindAt}
+use Rattle.shelf.specs.Limits.{elementPlace, blockLength}
+use Rattle.shelf.specs.Types.{typesOf, elementsOf, kindAt}
 use Rattle.shelf.specs.Elements.{settingsAt, thresholdsAt, readingAt, nominalAt, spareAt}
 use Rattle.shelf_formed.specs.Formed.{zeros, spareClear, elementFormed, elementsFormed, frontFormed, wellFormed}
 use Rattle.shelf_formed.proofs.ElementPut.{length-formed}
 use Rattle.shelf_formed.proofs.ElementTypes.{front-formed}
 use Rattle.shelf_formed.proofs.FormedShelf.{in-element}
-use Rattle.shelf_formed.proofs.FrontOfShelf.{front, elements-alike, kind-alike, front-alike}
+use Rattle.shelf_formed.proofs.FrontOfShelf.{front, types-alike, elements-alike, kind-alike, front-alike}
 
 -- a shelf with the same front and length, whose elements have the same reading, nominal and spare bytes
-module _ (s x : List ℕ) (e : front x ≡ front s) (h : length x ≡ length s) (r : (j : ℕ) → readingAt x j ≡ readingAt s j)
-    (m : (j : ℕ) → nominalAt x j ≡ nominalAt s j) (p : (j : ℕ) → spareAt x j ≡ spareAt s j) (w : wellFormed s ≡ true) where
+module _ (s x : List ℕ) (e : front x ≡ front s) (h : length x ≡ length s) (r : (j : ℕ) → j < elementsOf s → readingAt x j ≡ readingAt s j)
+    (m : (j : ℕ) → j < elementsOf s → nominalAt x j ≡ nominalAt s j) (p : (j : ℕ) → j < elementsOf s → spareAt x j ≡ spareAt s j)
+    (w : wellFormed s ≡ true) where
   spare : (j : ℕ) → j < elementsOf s → spareClear s j ≡ true
   unfolding wellFormed elementsFormed elementFormed
   spare j l =
       let k = kindAt s j in
-      let all = and-right (frontFormed s && eqb (length s) (elementPlace (elementsOf s))) (allBelow (elementFormed s) (elementsOf s)) w in
+      let all = and-right (frontFormed s && eqb (length s) (blockLength (typesOf s) (elementsOf s))) (allBelow (elementFormed s) (elementsOf s)) w in
       and-right
       ((((settingsFormed k (settingsAt s j) && had k (thresholdsAt s j)) && ordered k (thresholdsAt s j)) && readingAllowed k (readingAt s j)) && nominalAllowed k (nominalAt s j))
       (spareClear s j)
@@ -52,16 +53,17 @@ module _ (s x : List ℕ) (e : front x ≡ front s) (h : length x ≡ length s) 
       let settings : settingsFormed (kindAt x j) (settingsAt x j) ≡ true = rw k (f .0) in
       let has : had (kindAt x j) (thresholdsAt x j) ≡ true = rw k (f .1) in
       let order : ordered (kindAt x j) (thresholdsAt x j) ≡ true = rw k (f .2) in
-      let reading : readingAllowed (kindAt x j) (readingAt x j) ≡ true = rw (k, r j) (i .3) in
-      let nominal : nominalAllowed (kindAt x j) (nominalAt x j) ≡ true = rw (k, m j) (i .4) in
-      and-both (and-both (and-both (and-both (and-both settings has) order) reading) nominal) (ap zeros (p j) ∙ spare j l)
+      let reading : readingAllowed (kindAt x j) (readingAt x j) ≡ true = rw (k, r j l) (i .3) in
+      let nominal : nominalAllowed (kindAt x j) (nominalAt x j) ≡ true = rw (k, m j l) (i .4) in
+      and-both (and-both (and-both (and-both (and-both settings has) order) reading) nominal) (ap zeros (p j l) ∙ spare j l)
 
-  formed : ((j : ℕ) → j < elementsOf s → Fine j) → wellFormed x ≡ true
+  pub formed : ((j : ℕ) → j < elementsOf s → Fine j) → wellFormed x ≡ true
   unfolding wellFormed elementsFormed
   formed f =
       let n : elementsOf x ≡ elementsOf s = elements-alike s x e in
       and-both
-      (and-both (front-alike s x e ∙ front-formed s w) (eq-eqb (length x) (elementPlace (elementsOf x)) (h ∙ length-formed s w ∙ ap elementPlace (sym n))))
+      (and-both (front-alike s x e ∙ front-formed s w)
+      (eq-eqb (length x) (blockLength (typesOf x) (elementsOf x)) (h ∙ length-formed s w ∙ ap₂ blockLength (sym (types-alike s x e)) (sym n))))
       (below-all (elementFormed x) (elementsOf x) (λ j b. let l : j < elementsOf s = rw n at b in element j l (f j l)))
 
 -- byte q is one of the four from k on
@@ -191,4 +193,4 @@ module _ (at : ℕ → ℕ) (o : ℕ) (place : (j : ℕ) → at j ≡ elementPla
           × (had (kindAt s j) (thresholdsAt after j) ≡ true)
           × (ordered (kindAt s j) (thresholdsAt after j) ≡ true))
           → wellFormed after ≡ true
-      formed-same w = formed s after front-same length-same reading-same nominal-same spare-same w
+      formed-same w = formed s after front-same length-same (λ j l. reading-same j) (λ j l. nominal-same j) (λ j l. spare-same j) w

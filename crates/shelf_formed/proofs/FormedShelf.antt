@@ -13,7 +13,7 @@ use Rattle.bits.proofs.Logic.{and-left, and-right, and-five, below-at, pick-yes
 use Rattle.element.specs.Types.{served, readingAllowed, nominalAllowed}
 use Rattle.element.specs.Settings.{settingsFormed}
 use Rattle.element.specs.Types.{had, ordered}
-use Rattle.shelf.specs.Limits.{mostTypes, mostElements, mostInType, mostText, typeSize, typePlace, textPlace, elementPlace}
+use Rattle.shelf.specs.Limits.{mostTypes, mostElements, mostInType, mostText, typeSize, typePlace, textPlace, blockLength}
 use Rattle.shelf.specs.Types.{typesOf, typeCode, typeCount, textLength, elementsOf, kindAt}
 use Rattle.shelf.specs.Elements.{settingsAt, thresholdsAt, readingAt, nominalAt}
 use Rattle.shelf_formed.specs.Formed.{headFormed, textByteFormed, textFormed, typeFormed, typeByteEmpty, typeEmpty, slotFormed, typesFormed, spareClear, elementFormed, elementsFormed, frontFormed, wellFormed}
@@ -90,5 +90,5 @@ in-element s w j l =
     let c = ordered k (thresholdsAt s j) in
     let d = readingAllowed k (readingAt s j) in
     let e = nominalAllowed k (nominalAt s j) in
-    let all = and-right (frontFormed s && eqb (length s) (elementPlace (elementsOf s))) (allBelow (elementFormed s) (elementsOf s)) w in
+    let all = and-right (frontFormed s && eqb (length s) (blockLength (typesOf s) (elementsOf s))) (allBelow (elementFormed s) (elementsOf s)) w in
     and-five a b c d e (and-left ((((a && b) && c) && d) && e) (spareClear s j) (below-at (elementFormed s) (elementsOf s) all j l))

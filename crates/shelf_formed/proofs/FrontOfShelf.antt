@@ -107,6 +107,9 @@ module _ (s x : List ℕ) (e : front x ≡ front s) where
   pub alike : {A : Type 0} (f : List ℕ → A) → f (front x) ≡ f x → f (front s) ≡ f s → f x ≡ f s
   alike f p q = sym p ∙ ap f e ∙ q
 
+  pub types-alike : typesOf x ≡ typesOf s
+  types-alike = alike typesOf (types-same x) (types-same s)
+
   pub elements-alike : elementsOf x ≡ elementsOf s
   elements-alike = alike elementsOf (elements-same x) (elements-same s)
 

@@ -6,3 +6,4 @@ pub mod FrontOfShelf
 pub mod ElementsPut
 pub mod FormedShelf
 pub mod SomeShelf
+pub mod AnyNames

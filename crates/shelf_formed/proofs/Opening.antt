@@ -11,7 +11,7 @@ use Rattle.bits.specs.Choice.{pick}
 use Rattle.shelf_formed.specs.declared.Sizes.{Sizes}
 use Rattle.shelf_formed.specs.declared.Opened.{Opened}
 use Rattle.shelf_formed.specs.declared.Opened.the-variants.{Shelf, NotWellFormed}
-use Rattle.shelf.specs.Limits.{mostElements, elementPlace}
+use Rattle.shelf.specs.Limits.{mostElements, elementPlace, blockLength}
 use Rattle.shelf.specs.Types.{typesOf, elementsOf}
 use Rattle.shelf_formed.specs.Formed.{headFormed, typesFormed, elementsFormed, frontFormed, wellFormed, configurationFormed, openedIf, sizesIf, fronted, frontOpened, asLong, blockOpened, elementsOpened, opened, configurationOpened}
 
@@ -79,7 +79,7 @@ module _ (s : List ℕ) where
   unfolding opened wellFormed
   too-short h =
       no (wellFormed s)
-      (rw (no-right (frontFormed s) (eqb (length s) (elementPlace (elementsOf s))) (ne-eqb (length s) (elementPlace (elementsOf s)) (λ e. omega arith))))
+      (rw (no-right (frontFormed s) (eqb (length s) (blockLength (typesOf s) (elementsOf s))) (ne-eqb (length s) (blockLength (typesOf s) (elementsOf s)) (λ e. omega arith))))
 
   -- the front, and behind it the elements
   module _ {x : Opened} (f : x ≡ frontOpened s) where
@@ -111,7 +111,7 @@ module _ (s : List ℕ) where
   unfolding configurationOpened configurationFormed
   no-configuration l = no (configurationFormed s) (no-right (frontFormed s) (eqb (length s) (elementPlace 0)) (ne-eqb (length s) (elementPlace 0) l))
 
--- the bytes that elements of these sizes need, and behind that each of them
+-- the bytes that a shelf of these sizes needs, and behind that each element
 module _ (s : List ℕ) (z : Sizes) {x : Opened} (f : x ≡ blockOpened s z) where
   pub no-length : x ≡ NotWellFormed → NotWellFormed ≡ elementsOpened s z
   no-length u = rw (if-no (asLong s z) z (sym f ∙ u))
@@ -120,8 +120,8 @@ module _ (s : List ℕ) (z : Sizes) {x : Opened} (f : x ≡ blockOpened s z) whe
     long : asLong s z ≡ true
     long = if-yes (asLong s z) (sym f ∙ u) .0
 
-    pub has-elements : length s ≡ elementPlace (z .elements)
-    has-elements = eqb-true (length s) (elementPlace (z .elements)) long
+    pub has-elements : length s ≡ blockLength (z .types) (z .elements)
+    has-elements = eqb-true (length s) (blockLength (z .types) (z .elements)) long
 
     pub each-formed : elementsFormed s (z .elements) ≡ true → x ≡ elementsOpened s z
     each-formed e = f ∙ rw (long, e)

@@ -12,7 +12,7 @@ use Rattle.element.specs.Settings.{fieldsFormed}
 use Rattle.shelf_formed.specs.declared.Sizes.{Sizes}
 use Rattle.shelf_formed.specs.declared.Opened.{Opened}
 use Rattle.shelf_formed.specs.declared.Opened.the-variants.{Shelf, NotWellFormed}
-use Rattle.shelf.specs.Limits.{mostTypes, mostElements, mostInType, mostText, typeSize, typePlace, textPlace, elementPlace, HasTypes}
+use Rattle.shelf.specs.Limits.{mostTypes, mostElements, mostInType, mostText, typeSize, typePlace, textPlace, elementPlace, blockLength, HasTypes}
 use Rattle.shelf.specs.Types.{typesOf, typeCode, typeCount, textLength, elementsOf, kindAt}
 use Rattle.shelf.specs.Elements.{settingsAt, thresholdsAt, readingAt, nominalAt, spareAt}
 
@@ -73,9 +73,9 @@ frontFormed s = (headFormed s && typesFormed s (typesOf s)) && leb (elementsOf s
 abbrev pub HasFront : List ℕ → Type 0
 HasFront s = (frontFormed s ≡ true) × HasTypes s
 
--- the block has just the bytes that its elements need, and each of them is formed
+-- the block has just the bytes that its elements and names need, and each element is formed; any bytes mean some name
 unfoldable pub wellFormed : List ℕ → Bool
-wellFormed s = (frontFormed s && eqb (length s) (elementPlace (elementsOf s))) && elementsFormed s (elementsOf s)
+wellFormed s = (frontFormed s && eqb (length s) (blockLength (typesOf s) (elementsOf s))) && elementsFormed s (elementsOf s)
 
 -- a configuration is the front of a shelf block, without its elements
 unfoldable pub configurationFormed : List ℕ → Bool
@@ -91,12 +91,12 @@ sizesIf t s = openedIf t (record { types = typesOf s; elements = elementsOf s })
 unfoldable pub fronted : List ℕ → Opened
 fronted s = sizesIf (frontFormed s) s
 
--- a block is opened in stages: the front, if it has the bytes of one; just the bytes that elements of these sizes need; each of those
+-- a block is opened in stages: the front, if it has the bytes of one; just the bytes that a shelf of these sizes needs; each element
 abbrev pub frontOpened : List ℕ → Opened
 frontOpened s = pick (leb (elementPlace 0) (length s)) (fronted s) NotWellFormed
 
 abbrev pub asLong : List ℕ → Sizes → Bool
-asLong s z = eqb (length s) (elementPlace (z .elements))
+asLong s z = eqb (length s) (blockLength (z .types) (z .elements))
 
 abbrev pub blockOpened : List ℕ → Sizes → Opened
 blockOpened s z = openedIf (asLong s z) z

@@ -59,11 +59,11 @@ fn open_elements(shelf: &[u8], sizes: Sizes) -> Opened
     }
 }
 
-// The block has just the bytes that they need.
+// The block has just the bytes that they and their names need.
 fn open_block(shelf: &[u8], sizes: Sizes) -> Opened
     ensures { λ r. ⌜ r ≡ blockOpened (now (shelf .entry)) sizes ⌝ }
 {
-    if shelf.len() == limits::block_length(sizes.elements) {
+    if shelf.len() == limits::block_length(sizes.types, sizes.elements) {
         Opened::Shelf(sizes)
     } else {
         Opened::NotWellFormed

@@ -1,11 +1,12 @@
-// Shows what a shelf block holds, writes its pages, builds or applies a page for it, or says why it cannot: a built-in
-// block, or one that is read from a file. It writes no file.
+// Shows what a shelf block holds, writes its pages, builds, applies or reads a page for it, finds or sets a name in it, or says why it
+// cannot: a built-in block, or one that is read from a file. It writes no file.
 //
 // Every answer goes to standard output, a refusal too. What keeps a file from being read goes to standard error.
 mod answer;
 mod applying;
 mod building;
 mod full_speed;
+mod naming;
 mod pages;
 
 use tool_input::arguments;
@@ -47,7 +48,13 @@ fn run(command: Command) {
 fn without_file(command: Command) {
     match command {
         Command::Show | Command::Check => arguments::say_wrong_number(),
-        Command::Page(_) | Command::Settings | Command::Build | Command::Apply(_) => {
+        Command::Page(_)
+        | Command::Settings
+        | Command::Build
+        | Command::Apply(_)
+        | Command::Read
+        | Command::Find
+        | Command::Set(_) => {
             let mut shelf = builtin::shelf();
             tell(command, &mut shelf);
         }
@@ -57,12 +64,10 @@ fn without_file(command: Command) {
 fn on_named_file(command: Command, place: u8) {
     let mut block = [0u8; files::BLOCK_ROOM];
     let loaded = files::load(place, b"FILE", &mut block);
-    if !loaded.is_done {
-        arguments::say_usage();
-        return;
+    if loaded.is_done {
+        let n = loaded.bytes;
+        tell(command, &mut block[..n]);
     }
-    let n = loaded.bytes;
-    tell(command, &mut block[..n]);
 }
 
 fn tell(command: Command, shelf: &mut [u8]) {
@@ -75,6 +80,9 @@ fn tell(command: Command, shelf: &mut [u8]) {
         Command::Settings => tell_settings(shelf),
         Command::Build => build(shelf),
         Command::Apply(act) => apply(act, shelf),
+        Command::Read => read(shelf),
+        Command::Find => naming::tell_found(shelf),
+        Command::Set(named) => naming::tell_set(named, shelf),
     }
 }
 
@@ -101,21 +109,26 @@ fn tell_settings(shelf: &[u8]) {
 fn build(shelf: &[u8]) {
     let mut wanted = [0u8; files::WANTED_ROOM];
     let loaded = files::load(arguments::INPUT_PLACE, b"WANTED", &mut wanted);
-    if !loaded.is_done {
-        arguments::say_usage();
-        return;
+    if loaded.is_done {
+        let n = loaded.bytes;
+        building::tell(shelf, &wanted[..n]);
     }
-    let n = loaded.bytes;
-    building::tell(shelf, &wanted[..n]);
 }
 
 fn apply(act: Act, shelf: &mut [u8]) {
     let mut page = [0u8; files::PAGE_ROOM];
     let loaded = files::load(arguments::INPUT_PLACE, b"PAGE", &mut page);
-    if !loaded.is_done {
-        arguments::say_usage();
-        return;
+    if loaded.is_done {
+        let n = loaded.bytes;
+        applying::tell(act, shelf, &page[..n]);
     }
-    let n = loaded.bytes;
-    applying::tell(act, shelf, &page[..n]);
+}
+
+fn read(shelf: &[u8]) {
+    let mut page = [0u8; files::PAGE_ROOM];
+    let loaded = files::load(arguments::INPUT_PLACE, b"PAGE", &mut page);
+    if loaded.is_done {
+        let n = loaded.bytes;
+        naming::tell_page(shelf, &page[..n]);
+    }
 }

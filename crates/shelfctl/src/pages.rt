@@ -3,8 +3,8 @@ use refusals::Written;
 use shelf::limits;
 use tool_input::arguments::Page;
 
-// The longest of all pages is a configuration.
-const LONGEST: usize = limits::LONGEST_CONFIGURATION_PAGE;
+// The longest of all pages is one of names.
+const LONGEST: usize = limits::LONGEST_DESCRIPTOR_PAGE;
 
 pub fn tell(page: Page, shelf: &[u8]) {
     let mut out = [0u8; LONGEST];
@@ -16,6 +16,7 @@ pub fn tell_all(shelf: &[u8]) {
     tell_headed(b"configuration page", Page::Configuration, shelf);
     tell_headed(b"status page", Page::Status, shelf);
     tell_headed(b"threshold page", Page::Thresholds, shelf);
+    tell_headed(b"descriptor page", Page::Descriptors, shelf);
 }
 
 pub fn tell_headed(name: &[u8], page: Page, shelf: &[u8]) {
@@ -36,6 +37,7 @@ fn write(page: Page, shelf: &[u8], out: &mut [u8]) -> Written {
         Page::Configuration => ses::write_configuration(shelf, out),
         Page::Status => ses::write_status(shelf, out),
         Page::Thresholds => ses::write_thresholds(shelf, out),
+        Page::Descriptors => ses::write_descriptors(shelf, out),
     }
 }
 

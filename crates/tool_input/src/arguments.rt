@@ -1,20 +1,35 @@
-// The words of a command line: which command they name, and which of them is a file.
+// The words of a command line: which command they name, which of them is a file, and the name and the number among them.
 //
 // What is wrong with them goes to standard error.
 use libc::STDERR_FILENO;
+use shelf::limits;
+ghost use Rattle.io.specs.Counts.{Counts};
 
-// Which argument PAGE or WANTED is, of a command that takes one.
+// Which argument PAGE, WANTED, the name to find, or the number of what is named is, of a command that takes one.
 pub const INPUT_PLACE: u8 = 2;
+
+// Which one the name is, behind such a number.
+pub const NAME_PLACE: u8 = INPUT_PLACE + 1;
+
+// One byte more than the longest name.
+pub const NAME_ROOM: usize = limits::MOST_TEXT as usize + 1;
 
 pub enum Page {
     Configuration,
     Status,
     Thresholds,
+    Descriptors,
 }
 
 pub enum Act {
     Control,
     Thresholds,
+}
+
+// Whose name is set.
+pub enum Named {
+    Element,
+    Overall,
 }
 
 pub enum Command {
@@ -24,6 +39,9 @@ pub enum Command {
     Settings,
     Build,
     Apply(Act),
+    Read,
+    Find,
+    Set(Named),
 }
 
 pub enum Given {
@@ -51,6 +69,9 @@ pub fn first_given() -> Given {
     if first_is(b"thresholds") {
         return Given::Command(Command::Page(Page::Thresholds));
     }
+    if first_is(b"descriptors") {
+        return Given::Command(Command::Page(Page::Descriptors));
+    }
     if first_is(b"settings") {
         return Given::Command(Command::Settings);
     }
@@ -62,6 +83,18 @@ pub fn first_given() -> Given {
     }
     if first_is(b"apply-thresholds") {
         return Given::Command(Command::Apply(Act::Thresholds));
+    }
+    if first_is(b"read-descriptors") {
+        return Given::Command(Command::Read);
+    }
+    if first_is(b"find-name") {
+        return Given::Command(Command::Find);
+    }
+    if first_is(b"set-name") {
+        return Given::Command(Command::Set(Named::Element));
+    }
+    if first_is(b"set-overall-name") {
+        return Given::Command(Command::Set(Named::Overall));
     }
     Given::Unknown
 }
@@ -77,7 +110,65 @@ fn first_is(word: &[u8]) -> bool {
 pub fn file_place(command: Command) -> u8 {
     match command {
         Command::Show | Command::Check | Command::Page(_) | Command::Settings => 2,
-        Command::Build | Command::Apply(_) => INPUT_PLACE + 1,
+        Command::Build | Command::Apply(_) | Command::Read | Command::Find => INPUT_PLACE + 1,
+        Command::Set(_) => NAME_PLACE + 1,
+    }
+}
+
+// How many bytes of the name stand at the start of the buffer. A longer one than the longest fills it, and no element has or takes that
+// either: what follows of it changes no answer.
+pub fn name(place: u8, buffer: &mut [u8]) -> usize
+    ensures { λ r. ⌜ Counts r (now (buffer .exit)) ⌝ }
+{
+    let n = os::arg(place as usize, buffer);
+    if os::errno() == 0 { n } else { buffer.len() }
+}
+
+pub enum Told {
+    Number(u32),
+    Nothing,
+}
+
+// The number that decimal digits tell. More of them than the buffer has room for tell none.
+pub fn number(place: u8) -> Told {
+    let mut digits = [0u8; 20];
+    let n = os::arg(place as usize, &mut digits);
+    told_by(&digits[..n])
+}
+
+fn told_by(digits: &[u8]) -> Told {
+    if digits.len() == 0 {
+        return Told::Nothing;
+    }
+    let mut told: u32 = 0;
+    let mut i = 0;
+    while i < digits.len() {
+        if !is_digit(digits[i]) {
+            return Told::Nothing;
+        }
+        told = with_digit(told, digits[i]);
+        i += 1;
+    }
+    Told::Number(told)
+}
+
+fn is_digit(b: u8) -> bool {
+    (b'0' <= b) & (b <= b'9')
+}
+
+// The number with one more digit behind it, whose low half is its value. One that is past every element anyway stays as it is.
+fn with_digit(told: u32, digit: u8) -> u32 {
+    if told < 100_000_000 {
+        10 * told + (digit % 16) as u32
+    } else {
+        told
+    }
+}
+
+pub fn say_no_number(named: Named) {
+    match named {
+        Named::Element => say_wrong(b"ELEMENT is not a number of up to 20 digits\n"),
+        Named::Overall => say_wrong(b"TYPE is not a number of up to 20 digits\n"),
     }
 }
 
@@ -97,10 +188,14 @@ pub fn say_usage() {
     );
     io::write_all(
         STDERR_FILENO,
-        b"                 settings [FILE] | build-control WANTED [FILE] | apply-control PAGE [FILE] |\n",
+        b"                 descriptors [FILE] | settings [FILE] | build-control WANTED [FILE] |\n",
     );
     io::write_all(
         STDERR_FILENO,
-        b"                 apply-thresholds PAGE [FILE]]\n",
+        b"                 apply-control PAGE [FILE] | apply-thresholds PAGE [FILE] | read-descriptors PAGE [FILE] |\n",
+    );
+    io::write_all(
+        STDERR_FILENO,
+        b"                 find-name NAME [FILE] | set-name ELEMENT NAME [FILE] | set-overall-name TYPE NAME [FILE]]\n",
     );
 }

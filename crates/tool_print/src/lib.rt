@@ -48,8 +48,8 @@ fn part(s: &[u8], at: u32, n: u32) -> &[u8] {
     if e <= s.len() { &s[a..e] } else { &s[..0] }
 }
 
-pub fn hex_at(s: &[u8], at: u32, n: u16) {
-    let bytes = part(s, at, n as u32);
+pub fn hex_at(s: &[u8], at: u32, n: u32) {
+    let bytes = part(s, at, n);
     let mut i = 0;
     while i < bytes.len() {
         hex(bytes[i]);
@@ -86,8 +86,8 @@ fn printable(b: u8) -> u8 {
 }
 
 // The words, which end with a quotation mark, the text that stands at a place, and the closing mark.
-pub fn quoted_at(words: &[u8], s: &[u8], at: u32, n: u16) {
-    let bytes = part(s, at, n as u32);
+pub fn quoted_at(words: &[u8], s: &[u8], at: u32, n: u32) {
+    let bytes = part(s, at, n);
     text(words);
     let mut i = 0;
     while i < bytes.len() {

@@ -21,6 +21,7 @@ fn tell_meaning(r: Refusal) {
         Refusal::WantedList => crate::text(b"the list does not fit the shelf's elements"),
         Refusal::Unreachable => crate::text(b"no valid control page reaches the wanted settings"),
         Refusal::OutputTooShort => crate::text(b"the output buffer is shorter than the page"),
-        Refusal::NeededLength => crate::text(b"the types need another length than the page has"),
+        Refusal::NeededLength => crate::text(b"the page needs another length than it has"),
+        Refusal::NoSuchElement => crate::text(b"a number past the last element"),
     }
 }

@@ -7,8 +7,8 @@ ghost use lib.ListN.{length};
 
 pub const ELEMENTS: u16 = 10;
 
-// 332 bytes, and 16 for each element.
-pub const LENGTH: usize = 492;
+// 332 bytes, 16 for each element, and 32 for the name of each of five overall and ten individual elements.
+pub const LENGTH: usize = 972;
 
 // Its wanted list: 4 bytes for each of ten elements.
 pub const WANTED_LENGTH: usize = 40;
@@ -24,11 +24,12 @@ pub fn shelf() -> [u8; LENGTH] {
     put_temperatures(&mut s);
     put_rails(&mut s);
     put_loads(&mut s);
+    put_names(&mut s);
     s
 }
 
 fn put(s: &mut [u8; LENGTH], at: usize, part: &[u8])
-    requires { ⌜ at + length (now part) ≤ 492 ⌝ }
+    requires { ⌜ at + length (now part) ≤ 972 ⌝ }
 {
     let mut i = 0;
     while i < part.len() {
@@ -83,4 +84,23 @@ fn put_rails(s: &mut [u8; LENGTH]) {
 fn put_loads(s: &mut [u8; LENGTH]) {
     put(s, 460, &[0x10, 0, 0, 0, 40, 20, 0, 0, 0xff, 0x83, 1, 0xf4]);
     put(s, 476, &[0x40, 0, 0, 0, 45, 15, 0, 0, 2, 0x1a, 1, 0xf4]);
+}
+
+// For each type the name of its overall element, then those of its elements: of the fans; of the temperatures, whose overall element
+// and second have none, and the third has the longest; of the type without elements; of the voltages, and of the currents, which bear
+// the same two names.
+fn put_names(s: &mut [u8; LENGTH]) {
+    put(s, 492, b"Rear fans");
+    put(s, 524, b"Fan rear left");
+    put(s, 556, b"Fan rear middle");
+    put(s, 588, b"Fan rear right");
+    put(s, 652, b"Air inlet");
+    put(s, 716, b"Air outlet behind the drive cage");
+    put(s, 748, b"Not fitted");
+    put(s, 780, b"12 V rails");
+    put(s, 812, b"Supply A");
+    put(s, 844, b"Supply B");
+    put(s, 876, b"12 V loads");
+    put(s, 908, b"Supply A");
+    put(s, 940, b"Supply B");
 }

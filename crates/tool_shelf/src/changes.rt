@@ -8,10 +8,14 @@ const FIRST_ELEMENT: usize = 332;
 
 const ELEMENT_SIZE: usize = 16;
 
+const FIRST_NAME: usize = 492;
+
 pub fn tell(before: &[u8; builtin::LENGTH], after: &[u8; builtin::LENGTH]) {
     tell_elements(before, after);
     tool_print::text(b"all else");
-    say_changed(changed(before, after, 0, FIRST_ELEMENT));
+    let front = changed(before, after, 0, FIRST_ELEMENT);
+    let names = changed(before, after, FIRST_NAME, builtin::LENGTH);
+    say_changed(front as u64 + names as u64);
 }
 
 fn tell_elements(before: &[u8; builtin::LENGTH], after: &[u8; builtin::LENGTH]) {
@@ -27,7 +31,7 @@ fn tell_element(before: &[u8; builtin::LENGTH], after: &[u8; builtin::LENGTH], j
 {
     let at = FIRST_ELEMENT + ELEMENT_SIZE * j as usize;
     tool_print::labelled(b"element ", j as u64);
-    say_changed(changed(before, after, at, at + ELEMENT_SIZE));
+    say_changed(changed(before, after, at, at + ELEMENT_SIZE) as u64);
 }
 
 // How many bytes differ, from a place up to an end.
@@ -37,7 +41,7 @@ fn changed(
     at: usize,
     end: usize,
 ) -> u32
-    requires { ⌜ end ≤ 492 ⌝ }
+    requires { ⌜ end ≤ 972 ⌝ }
 {
     let mut n: u32 = 0;
     let mut i = at;
@@ -50,12 +54,12 @@ fn changed(
     n
 }
 
-fn say_changed(n: u32) {
+fn say_changed(n: u64) {
     match n {
         0 => tool_print::text(b": kept every byte\n"),
         1 => tool_print::text(b": 1 byte changed\n"),
         _ => {
-            tool_print::labelled(b": ", n as u64);
+            tool_print::labelled(b": ", n);
             tool_print::text(b" bytes changed\n");
         }
     }

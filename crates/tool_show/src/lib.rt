@@ -1,5 +1,6 @@
-// What a well-formed shelf holds, in words: its head, its types, and the elements of each; and what a page for it has at a place. Of any
-// other block nothing is said.
+// What a well-formed shelf holds, in words: its head, its types, and the elements of each; the names that a page for it tells, and what
+// a page has at a place. Of any other block nothing is said.
+pub mod named;
 pub mod place;
 mod words;
 
@@ -7,9 +8,13 @@ use element::types::Kind;
 use shelf::limits;
 use shelf::types;
 use shelf_formed::Opened;
-ghost use Prim.Native.Nat.{_<_, _≤_};
-ghost use lib.ListN.{length};
-ghost use Rattle.shelf.specs.Limits.{mostTypes, elementPlace, HasTypes};
+use shelf_formed::Sizes;
+ghost use mathlib.Core.Path.{_≡_};
+ghost use mathlib.Core.Bool.{true};
+ghost use Prim.Native.Nat.{_<_};
+ghost use Rattle.shelf.specs.Limits.{mostTypes, HasTypes};
+ghost use Rattle.shelf.specs.Types.{typesOf, elementsOf};
+ghost use Rattle.shelf_formed.specs.Formed.{wellFormed};
 
 pub fn contents(shelf: &[u8]) {
     let opened = shelf_formed::open_shelf(shelf);
@@ -18,7 +23,7 @@ pub fn contents(shelf: &[u8]) {
     };
     show_sizes(shelf, sizes.types, sizes.elements);
     show_identification(shelf);
-    show_types(shelf, sizes.types, sizes.elements);
+    show_types(shelf, sizes);
 }
 
 // The first type alone.
@@ -27,7 +32,7 @@ pub fn first_type(shelf: &[u8]) {
     let Opened::Shelf(sizes) = opened else {
         return;
     };
-    show_type(shelf, 0, sizes.elements);
+    show_type(shelf, 0, sizes);
 }
 
 fn show_sizes(shelf: &[u8], types: u16, elements: u16)
@@ -51,23 +56,35 @@ fn show_identification(shelf: &[u8]) {
     tool_print::text(b"\n");
 }
 
-fn show_types(shelf: &[u8], types: u16, elements: u16)
-    requires { ⌜ types ≤ mostTypes ⌝ }
-    requires { ⌜ elementPlace elements ≤ length (now shelf) ⌝ }
+fn show_types(shelf: &[u8], sizes: Sizes)
+    requires { ⌜ wellFormed (now shelf) ≡ true ⌝ }
+    requires { ⌜ sizes .types ≡ typesOf (now shelf) ⌝ }
+    requires { ⌜ sizes .elements ≡ elementsOf (now shelf) ⌝ }
 {
     let mut t: u16 = 0;
-    while t < types {
-        show_type(shelf, t, elements);
+    while t < sizes.types {
+        show_type(shelf, t, sizes);
         t += 1;
     }
 }
 
-fn show_type(shelf: &[u8], t: u16, elements: u16)
+fn show_type(shelf: &[u8], t: u16, sizes: Sizes)
+    requires { ⌜ wellFormed (now shelf) ≡ true ⌝ }
+    requires { ⌜ sizes .types ≡ typesOf (now shelf) ⌝ }
+    requires { ⌜ sizes .elements ≡ elementsOf (now shelf) ⌝ }
+    requires { ⌜ t < sizes .types ⌝ }
+{
+    say_type(shelf, t);
+    say_overall_name(shelf, t, sizes.elements);
+    show_elements(shelf, t, sizes.elements);
+}
+
+fn say_type(shelf: &[u8], t: u16)
+    requires { ⌜ HasTypes (now shelf) ⌝ }
     requires { ⌜ t < mostTypes ⌝ }
-    requires { ⌜ elementPlace elements ≤ length (now shelf) ⌝ }
 {
     let code = types::code_of(shelf, t);
-    let length = types::text_length(shelf, t) as u16;
+    let length = types::text_length(shelf, t) as u32;
     tool_print::labelled(b"type ", t as u64);
     tool_print::text(b": ");
     words::say_kind(Kind::of(code));
@@ -75,13 +92,24 @@ fn show_type(shelf: &[u8], t: u16, elements: u16)
     tool_print::hex(code);
     tool_print::quoted_at(b"h) \"", shelf, limits::text_place(t), length);
     tool_print::count(types::elements_of(shelf, t) as u64, b" element");
-    tool_print::text(b"\n");
-    show_elements(shelf, t, elements);
 }
 
-// Those of n elements that are of type t.
+// The first of the names of type t, of a shelf of n elements.
+fn say_overall_name(shelf: &[u8], t: u16, n: u16)
+    requires { ⌜ wellFormed (now shelf) ≡ true ⌝ }
+    requires { ⌜ n ≡ elementsOf (now shelf) ⌝ }
+    requires { ⌜ t < typesOf (now shelf) ⌝ }
+{
+    let i = types::elements_before(shelf, t) + t;
+    words::say_name(b", overall \"", shelf, limits::name_place(n, i));
+    tool_print::text(b"\n");
+}
+
+// Those of n elements that are of type t. The names of the types up to this one stand before theirs.
 fn show_elements(shelf: &[u8], t: u16, n: u16)
-    requires { ⌜ elementPlace n ≤ length (now shelf) ⌝ }
+    requires { ⌜ wellFormed (now shelf) ≡ true ⌝ }
+    requires { ⌜ n ≡ elementsOf (now shelf) ⌝ }
+    requires { ⌜ t < typesOf (now shelf) ⌝ }
 {
     let mut run = types::first_run(shelf);
     let mut j: u16 = 0;
@@ -90,7 +118,7 @@ fn show_elements(shelf: &[u8], t: u16, n: u16)
         run = here;
         let kind = here.kind;
         if here.number == t as u32 {
-            words::show(shelf, kind, j);
+            words::show(shelf, kind, j, limits::name_place(n, j + t + 1));
         }
         j += 1;
     }

@@ -3,12 +3,16 @@ use mathlib.Core.Path.{sym, _∙_}
 use native.Mathlib.Omega.{arith}
 use denote.Ref.{now}
 use borrow.Author.Needs.{needs}
-use Rattle.shelf_formed.proofs.ElementPut.{opened-there}
+use Rattle.shelf_formed.proofs.Opening.{formed-sizes}
+use Rattle.tool_show.proofs.Rooms.{some-type}
 use Rattle.tool_show.proofs.first_type.Statement.{statement}
 use Rattle.tool_show.proofs.first_type.Tie as tie
 
 show-type-requires : tie.Need-show-type-requires
-show-type-requires c κs = let z = opened-there (now (c .before .before .before .before .before .args .shelf)) (sym (c .before .before .before .open-shelf .ensures) ∙ c .before .opened .given .1) in (omega arith, z .1)
+show-type-requires c κs =
+    let x = now (c .before .before .before .before .before .args .shelf) in
+    let z = formed-sizes x (sym (c .before .before .before .open-shelf .ensures) ∙ c .before .opened .given .1) in
+    (z .0, (z .1, (z .2, omega (arith, z .1, some-type x (z .0)))))
 
 pub first-type-spec : {M : Type 1} → statement M
 first-type-spec =

@@ -6,10 +6,10 @@ use Rattle.tool_show.proofs.show_types.Statement.{statement}
 use Rattle.tool_show.proofs.show_types.Tie as tie
 
 abbrev Inv-loop : tie.InvT-loop
-Inv-loop shelf types elements t₀ t = (t ≤ types)
+Inv-loop shelf sizes t₀ t = t ≤ sizes .types
 
 abbrev μ-loop : tie.MeasureT-loop
-μ-loop shelf types elements t₀ t = types - t
+μ-loop shelf sizes t₀ t = sizes .types - t
 
 loop-holds : tie.Need-loop-holds Inv-loop μ-loop
 loop-holds c = omega arith

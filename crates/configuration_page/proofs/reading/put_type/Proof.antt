@@ -10,8 +10,8 @@ use Rattle.configuration_page.proofs.reading.put_type.Tie as tie
 head-told-requires : tie.Need-head-told-requires
 head-told-requires c κs = let s = c .before .before in headers-in (now (s .args .page)) (s .pre .0)
 
-text-told-requires : tie.Need-text-told-requires
-text-told-requires c κs =
+padded-requires : tie.Need-padded-requires
+padded-requires c κs =
     let s = c .before .before .before in
     let p = now (s .args .page) in
     let n = head-length p (s .args .t) (c .head-told .ensures) in
@@ -23,7 +23,7 @@ returns c =
     let p = now (s .args .page) in
     let h = c .before .before .before .before .before .before .before .before .before .before .before .before .head-told .ensures in
     let n = head-length p (s .args .t) h in
-    let x = c .before .before .before .before .before .before .before .before .before .before .before .text-told .ensures in
+    let x = c .before .before .before .before .before .before .before .before .before .before .before .padded .ensures in
     let t = text-done p (s .pre .0) (s .args .t) (s .pre .1 .1 .0) n x in
     let o = type-put p (s .args .t) (now (s .args .configuration)) (s .pre .1 .0) (s .pre .1 .1 .1) h t
     (c .before .before .before .before .before .before .before .before .before .type-place .ensures)
@@ -37,7 +37,7 @@ put-type-spec =
     (tie.spec
     head-told-requires
     (λ c. search needs) (λ c. search needs)
-    text-told-requires
+    padded-requires
     (λ c κs. search needs) (λ c κs. search needs) (λ c. search needs) (λ c κs. search needs)
     (λ c. search needs) (λ c κs. search needs) (λ c. search needs)
     returns)

@@ -1,57 +1,12 @@
 -- `shelf::types::all_elements` meets its contract. Assumes nothing.
-use mathlib.Core.Path.{_≡_, sym, ap, _∙_}
-use Prim.Native.Nat.{ℕ, _+_, _*_, _≤_, _-_}
-use native.Mathlib.Omega.{arith}
+use Rattle.shelf.specs.Types.{elementsOf}
 use borrow.Author.Needs.{needs}
-use denote.Ref.{now}
-use Rattle.shelf.specs.Limits.{mostTypes}
-use Rattle.shelf.specs.Types.{typeCount, before, elementsOf}
-use Rattle.shelf.proofs.ElementsBefore.{before-none, before-next}
 use Rattle.shelf.proofs.types.all_elements.Statement.{statement}
 use Rattle.shelf.proofs.types.all_elements.Tie as tie
 
-abbrev Inv-loop : tie.InvT-loop
-Inv-loop shelf sum₀ t₀ sum t = (t ≤ mostTypes) × (sum ≤ 255 * t) × (sum ≡ before shelf t)
-
-abbrev μ-loop : tie.MeasureT-loop
-μ-loop shelf sum₀ t₀ sum t = mostTypes - t
-
-loop-holds : tie.Need-loop-holds Inv-loop μ-loop
-loop-holds c = (omega arith, omega arith, sym (before-none _))
-
-elements-of-requires : tie.Need-elements-of-requires Inv-loop μ-loop
-elements-of-requires c κs = search needs
-
-cast-sum : tie.Need-cast-sum Inv-loop μ-loop
-cast-sum c = omega arith
-
-add-sum : tie.Need-add-sum Inv-loop μ-loop
-add-sum c = omega arith
-
-add-t : tie.Need-add-t Inv-loop μ-loop
-add-t c = omega arith
-
-loop-less : tie.Need-loop-less Inv-loop μ-loop
-loop-less c = omega arith
-
-loop-again : tie.Need-loop-again Inv-loop μ-loop
-loop-again c = (omega arith, omega arith, ap (λ (n : ℕ). c .before .before .loop .sum + n) (c .elements-of .ensures) ∙ ap (λ (n : ℕ). n + typeCount (now (c .before .before .before .before .args .shelf)) (c .before .before .loop .t)) (c .before .before .loop .inv .2) ∙ sym (before-next (now (c .before .before .before .before .args .shelf)) (c .before .before .loop .t)))
-
-returns : tie.Need-returns Inv-loop μ-loop
+returns : tie.Need-returns
 unfolding elementsOf
-returns c = let e : c .before .loop .t ≡ mostTypes = omega arith in rw e at (c .before .loop .inv .2)
+returns c = search needs
 
 pub all-elements-spec : {M : Type 1} → statement M
-all-elements-spec =
-    tie.close
-    (tie.spec
-    Inv-loop
-    μ-loop
-    loop-holds
-    elements-of-requires
-    cast-sum
-    add-sum
-    add-t
-    loop-less
-    loop-again
-    returns)
+all-elements-spec = tie.close (tie.spec (λ c κs. search needs) returns)

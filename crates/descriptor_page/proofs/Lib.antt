@@ -1,0 +1,4 @@
+pub mod DescriptorRows
+pub mod PagePlaced
+pub mod DescriptorsBack
+pub mod SamePages

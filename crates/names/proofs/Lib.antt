@@ -1,0 +1,9 @@
+pub mod NameBack
+pub mod Equal
+pub mod NameTests
+pub mod NameSearch
+pub mod SettingTests
+pub mod FoundExactly
+pub mod SlotsApart
+pub mod NamesKept
+pub mod NameSet

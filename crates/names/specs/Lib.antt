@@ -1,0 +1,4 @@
+pub mod Name
+pub mod Names
+pub mod Found
+pub mod Setting

@@ -1,9 +1,10 @@
 /* The library behind a pipe, so that a program of any language and processor can ask it.
  *
  * A request is one byte that names the call, then its buffers, each a length of four bytes (the highest
- * first) and as many bytes. The answer is the call's own byte, for a call that writes a page the four
- * bytes of `written`, for the builder those of `selects` too, for a call that reads or applies a page
- * those of `offset`, and then the buffer that it may change.
+ * first) and as many bytes; a number is a buffer of four. The answer is the call's own byte, for a call that
+ * writes a page the four bytes of `written`, for the builder those of `selects` too, for a call that reads or
+ * applies a page those of `offset`, for the one that looks for a name those of `element`, and then the buffer
+ * that it may change, if there is one.
  *
  *   c shelf                        ses_check
  *   A shelf out                    ses_write_configuration, written, and out
@@ -18,6 +19,12 @@
  *   J shelf page                   ses_apply_control, offset, and the shelf
  *   K shelf page                   ses_apply_thresholds, offset, and the shelf
  *   L shelf wanted out             ses_build_control, written, selects, and out
+ *   M shelf out                    ses_write_descriptors, written, and out
+ *   N configuration page record    ses_read_descriptors, offset, and the record
+ *   O configuration record out     ses_rewrite_descriptors, written, and out
+ *   P shelf text                   ses_find_name and element
+ *   Q shelf element text           ses_set_name and the shelf
+ *   R shelf type text              ses_set_overall_name and the shelf
  *   .                              all answers are sent
  */
 #include "ses.h"
@@ -38,7 +45,7 @@ struct buffer {
 };
 
 static struct buffer first, second, lent;
-static uint32_t written, selects, offset;
+static uint32_t written, selects, offset, element;
 
 static void fail(const char *why)
 {
@@ -66,12 +73,17 @@ static void make_room(struct buffer *b)
     b->copy = allocate(b->room + 1);
 }
 
+static uint32_t number_in(const unsigned char bytes[4])
+{
+    return (uint32_t)bytes[0] << 24 | (uint32_t)bytes[1] << 16 | (uint32_t)bytes[2] << 8 | bytes[3];
+}
+
 static void take(struct buffer *b)
 {
     unsigned char head[4];
     if (fread(head, 1, 4, stdin) != 4)
         fail("a length is cut off");
-    b->length = (size_t)head[0] << 24 | (size_t)head[1] << 16 | (size_t)head[2] << 8 | head[3];
+    b->length = number_in(head);
     make_room(b);
     if (fread(b->bytes, 1, b->length, stdin) != b->length)
         fail("a buffer is cut off");
@@ -197,6 +209,55 @@ static void answer_rewrite_thresholds(void)
     send_lent();
 }
 
+static void answer_read_descriptors(void)
+{
+    take_input(&first);
+    take_input(&second);
+    take_record(&lent, sizeof(struct ses_names));
+    offset = NOT_WRITTEN;
+    putchar(ses_read_descriptors(first.bytes, first.length, second.bytes, second.length,
+                                 (struct ses_names *)lent.bytes, &offset));
+    check_input(&first);
+    check_input(&second);
+    send_number(offset);
+    send_lent();
+}
+
+static void answer_rewrite_descriptors(void)
+{
+    take_input(&first);
+    take_record(&second, sizeof(struct ses_names));
+    take(&lent);
+    written = NOT_WRITTEN;
+    putchar(ses_rewrite_descriptors(first.bytes, first.length, (const struct ses_names *)second.bytes,
+                                    lent.bytes, lent.length, &written));
+    check_input(&first);
+    check_input(&second);
+    send_number(written);
+    send_lent();
+}
+
+static void answer_find(void)
+{
+    take_input(&first);
+    take_input(&second);
+    element = NOT_WRITTEN;
+    putchar(ses_find_name(first.bytes, first.length, second.bytes, second.length, &element));
+    check_input(&first);
+    check_input(&second);
+    send_number(element);
+}
+
+static void answer_set(uint8_t (*call)(uint8_t *, size_t, uint32_t, const uint8_t *, size_t))
+{
+    take(&lent);
+    take_record(&first, 4);
+    take_input(&second);
+    putchar(call(lent.bytes, lent.length, number_in(first.bytes), second.bytes, second.length));
+    check_input(&second);
+    send_lent();
+}
+
 static void answer_apply(uint8_t (*call)(uint8_t *, size_t, const uint8_t *, size_t, uint32_t *))
 {
     take(&lent);
@@ -268,6 +329,24 @@ int main(void)
             break;
         case 'L':
             answer_build();
+            break;
+        case 'M':
+            answer_write(ses_write_descriptors);
+            break;
+        case 'N':
+            answer_read_descriptors();
+            break;
+        case 'O':
+            answer_rewrite_descriptors();
+            break;
+        case 'P':
+            answer_find();
+            break;
+        case 'Q':
+            answer_set(ses_set_name);
+            break;
+        case 'R':
+            answer_set(ses_set_overall_name);
             break;
         case '.':
             fflush(stdout);

@@ -1,11 +1,12 @@
 //! Shelf blocks to compare: well-formed ones of every shape, and damaged ones.
 
 use crate::limits::{
-    block_bytes, most_elements_of, ELEMENTS_AT, ELEMENT_BYTES, FASTEST, FIRST_LETTER,
-    HIGHEST_NOMINAL, HIGHEST_SPEED, LAST_LETTER, LONGEST_BLOCK, LONGEST_SAID, MOST_ELEMENTS,
-    MOST_OF_TYPE, MOST_SAID, MOST_TEXT, MOST_TYPES, SLOTS_AT, SLOT_BYTES, TEXT_AT_IN_SLOT,
-    TYPES_AT,
+    block_bytes, element_at, most_elements_of, name_at, ELEMENTS_AT, ELEMENT_BYTES, FASTEST,
+    FIRST_LETTER, HIGHEST_NOMINAL, HIGHEST_SPEED, LAST_LETTER, LONGEST_BLOCK, LONGEST_SAID,
+    MOST_ELEMENTS, MOST_OF_TYPE, MOST_SAID, MOST_TEXT, MOST_TYPES, NAME_BYTES, SLOTS_AT,
+    SLOT_BYTES, TEXT_AT_IN_SLOT, TYPES_AT,
 };
+use crate::names::give_names;
 use crate::record::{
     Element, FanSettings, Group, Identification, Kind, Settings, Shelf, Thresholds,
 };
@@ -67,10 +68,12 @@ fn byte_changes(rng: &mut Rng, offer: Offer) {
     let one_of_each = Kind::ALL.map(|kind| group(rng, kind, 1)).to_vec();
     let two_of_each = [one_of_each.clone(), one_of_each.clone()].concat();
     for groups in [empty, one_of_each, two_of_each] {
-        let mut block = shelf_of(rng, groups).block();
+        let shelf = shelf_of(rng, groups);
+        let mut block = shelf.block();
+        let names_at = element_at(shelf.elements().count());
         for at in 0..block.len() {
             let kept = block[at];
-            let intent = if at < TYPES_AT {
+            let intent = if at < TYPES_AT || at >= names_at {
                 Intent::WellFormed
             } else {
                 Intent::Open
@@ -89,7 +92,7 @@ fn byte_changes(rng: &mut Rng, offer: Offer) {
 fn element_words(rng: &mut Rng, offer: Offer) {
     for kind in Kind::ALL {
         let block = one_type(rng, kind, 1).block();
-        for at in (ELEMENTS_AT..block.len()).step_by(2) {
+        for at in (element_at(0)..element_at(1)).step_by(2) {
             let mut changed = block.clone();
             for word in 0..=u16::MAX {
                 changed[at..at + 2].copy_from_slice(&word.to_be_bytes());
@@ -105,12 +108,14 @@ fn wrong_lengths(rng: &mut Rng, offer: Offer) {
         for length in 0..block.len() {
             offer(&block[..length], Intent::Malformed);
         }
-        for surplus in 1..=3 * ELEMENT_BYTES {
+        for surplus in 1..=NAME_BYTES + ELEMENT_BYTES {
             offer_extended(&block, surplus, rng, offer);
         }
         offer_extended(&block, LONGEST_SAID - block.len(), rng, offer);
-        let last_again = &block[block.len() - ELEMENT_BYTES..];
-        offer(&[&block[..], last_again].concat(), Intent::Malformed);
+        for end in [ELEMENT_BYTES, NAME_BYTES] {
+            let last_again = &block[block.len() - end..];
+            offer(&[&block[..], last_again].concat(), Intent::Malformed);
+        }
     }
 }
 
@@ -122,9 +127,10 @@ fn offer_extended(block: &[u8], surplus: usize, rng: &mut Rng, offer: Offer) {
 
 fn plain_fills(rng: &mut Rng, offer: Offer) {
     let short = 0..=LONG_BLOCK;
-    let at_element_ends = (ELEMENTS_AT..=block_bytes(MOST_SAID + 1)).step_by(ELEMENT_BYTES);
+    let of_elements = (0..=MOST_SAID + 1).step_by(3);
+    let at_their_ends = of_elements.map(|elements| block_bytes(1, elements));
     let longest = LONGEST_SAID - 4..=LONGEST_SAID;
-    for length in short.chain(at_element_ends).chain(longest) {
+    for length in short.chain(at_their_ends).chain(longest) {
         for fill in [0x00, 0xFF, 0x01, 0x20] {
             offer(&vec![fill; length], Intent::Malformed);
         }
@@ -148,8 +154,10 @@ fn wrong_totals(rng: &mut Rng, offer: Offer) {
         let block = shelf_of(rng, groups).block();
         offer(&block, Intent::Malformed);
         for counted in [elements % 256, MOST_ELEMENTS] {
-            let length = block.len().min(block_bytes(counted));
-            offer(&block[..length], Intent::Malformed);
+            for end in [element_at(counted), block_bytes(types, counted)] {
+                let length = block.len().min(end);
+                offer(&block[..length], Intent::Malformed);
+            }
         }
     }
 }
@@ -318,12 +326,17 @@ fn with_block_flaw(rng: &mut Rng, flaw: BlockFlaw) -> Vec<u8> {
 pub fn malformed_block(rng: &mut Rng) -> Vec<u8> {
     match rng.range(0, 4) {
         0 => {
-            let block = shelf(rng).block();
-            let length = rng.range(0, block.len() - 1);
-            block[..length].to_vec()
+            let shelf = shelf(rng);
+            let (types, elements) = (shelf.groups.len(), shelf.elements().count());
+            let any = rng.range(0, block_bytes(types, elements) - 1);
+            let without_names = element_at(elements);
+            let a_name_less = name_at(elements, types + elements - 1);
+            let length = rng.pick(&[any, any, without_names, a_name_less]);
+            shelf.block()[..length].to_vec()
         }
         1 => {
-            let surplus = rng.range(1, 2 * ELEMENT_BYTES);
+            let any = rng.range(1, 2 * NAME_BYTES);
+            let surplus = rng.pick(&[any, any, ELEMENT_BYTES, NAME_BYTES]);
             [shelf(rng).block(), rng.bytes(surplus)].concat()
         }
         2 => {
@@ -371,7 +384,7 @@ fn target(rng: &mut Rng) -> Target {
         text_length,
         slot_at: SLOTS_AT + SLOT_BYTES * place,
         unused_slots_at: SLOTS_AT + SLOT_BYTES * groups.len(),
-        element_at: block_bytes(element),
+        element_at: element_at(element),
         block: shelf_of(rng, groups).block(),
     }
 }
@@ -472,9 +485,12 @@ fn open_changes(rng: &mut Rng, offer: Offer) {
             change(&mut target, rng);
             offer(&target.block, Intent::Open);
         }
-        let mut block = shelf(rng).block();
+        let shelf = shelf(rng);
+        let mut block = shelf.block();
+        let names_at = element_at(shelf.elements().count());
         for _ in 0..rng.range(1, 3) {
-            let at = rng.range(TYPES_AT, block.len() - 1);
+            let end = rng.pick(&[names_at, names_at, block.len()]);
+            let at = rng.range(TYPES_AT, end - 1);
             block[at] = rng.byte();
         }
         offer(&block, Intent::Open);
@@ -532,7 +548,9 @@ pub fn one_type(rng: &mut Rng, kind: Kind, count: usize) -> Shelf {
     shelf_of(rng, groups)
 }
 
-pub fn shelf_of(rng: &mut Rng, groups: Vec<Group>) -> Shelf {
+/// With names of their own, whatever the groups have.
+pub fn shelf_of(rng: &mut Rng, mut groups: Vec<Group>) -> Shelf {
+    give_names(rng, &mut groups);
     Shelf {
         generation: u32::from_be_bytes(from_fn(|_| rng.byte())),
         identification: Identification {
@@ -589,11 +607,9 @@ fn too_many(rng: &mut Rng, types: usize, elements: usize) -> Vec<Group> {
 pub fn group(rng: &mut Rng, kind: Kind, count: usize) -> Group {
     let most = MOST_TEXT as u16;
     let length = near(rng, &[0, 1, most - 1, most], 0, most);
-    Group {
-        kind,
-        text: text(rng, length.into()),
-        elements: (0..count).map(|_| element(rng, kind)).collect(),
-    }
+    let text = text(rng, length.into());
+    let elements = (0..count).map(|_| element(rng, kind)).collect();
+    Group::nameless(kind, text, elements)
 }
 
 pub fn text(rng: &mut Rng, length: usize) -> Vec<u8> {

@@ -8,6 +8,8 @@ pub const MOST_ELEMENTS: usize = 64;
 pub const MOST_OF_TYPE: usize = 64;
 /// Letters of a type's text.
 pub const MOST_TEXT: usize = 32;
+/// Letters of an element's name.
+pub const MOST_NAME: usize = 32;
 pub const FIRST_LETTER: u8 = 0x20;
 pub const LAST_LETTER: u8 = 0x7E;
 pub const HIGHEST_SPEED: u8 = 7;
@@ -40,18 +42,31 @@ pub const SLOT_BYTES: usize = TEXT_AT_IN_SLOT + MOST_TEXT;
 pub const CONFIGURATION_BYTES: usize = SLOTS_AT + SLOT_BYTES * MOST_TYPES;
 pub const ELEMENTS_AT: usize = CONFIGURATION_BYTES;
 pub const ELEMENT_BYTES: usize = 16;
-pub const LONGEST_BLOCK: usize = block_bytes(MOST_ELEMENTS);
+/// What a block keeps for a name, whatever its length.
+pub const NAME_BYTES: usize = MOST_NAME;
+pub const LONGEST_BLOCK: usize = block_bytes(MOST_TYPES, MOST_ELEMENTS);
 
-pub const fn block_bytes(elements: usize) -> usize {
-    ELEMENTS_AT + ELEMENT_BYTES * elements
+/// Where a block has this element, counted through all types.
+pub const fn element_at(element: usize) -> usize {
+    ELEMENTS_AT + ELEMENT_BYTES * element
 }
 
-/// Entries of a status or threshold record: an overall one for each type, and one for each element.
+/// Where a block with so many elements has this name, counted as the places of a page are.
+pub const fn name_at(elements: usize, name: usize) -> usize {
+    element_at(elements) + NAME_BYTES * name
+}
+
+pub const fn block_bytes(types: usize, elements: usize) -> usize {
+    name_at(elements, types + elements)
+}
+
+/// Entries of a status, threshold or name record: an overall one for each type, and one for each element.
 pub const MOST_ENTRIES: usize = MOST_TYPES + MOST_ELEMENTS;
 pub const STATUS_ENTRY_BYTES: usize = 16;
 pub const THRESHOLD_ENTRY_BYTES: usize = 4;
 pub const STATUS_BYTES: usize = record_bytes(STATUS_ENTRY_BYTES, MOST_ENTRIES);
 pub const THRESHOLDS_BYTES: usize = record_bytes(THRESHOLD_ENTRY_BYTES, MOST_ENTRIES);
+pub const NAMES_BYTES: usize = record_bytes(NAME_BYTES, MOST_ENTRIES);
 
 /// The bytes of a record up to the end of its last entry.
 pub const fn record_bytes(entry_bytes: usize, entries: usize) -> usize {
@@ -70,7 +85,16 @@ pub const fn configuration_page_bytes(types: usize, letters: usize) -> usize {
     48 + 4 * types + letters
 }
 
-/// The longest page that a shelf has.
+/// A page 07h, which has as many descriptors as a record has entries, each of a head and its letters.
+pub const fn descriptor_page_bytes(descriptors: usize, letters: usize) -> usize {
+    8 + DESCRIPTOR_HEAD_BYTES * descriptors + letters
+}
+
+pub const DESCRIPTOR_HEAD_BYTES: usize = 4;
+pub const LONGEST_DESCRIPTOR_PAGE: usize =
+    descriptor_page_bytes(MOST_ENTRIES, MOST_ENTRIES * MOST_NAME);
+
+/// The longest page that a shelf has, but for 07h.
 pub const LONGEST_PAGE: usize = longer(
     element_page_bytes(MOST_ENTRIES),
     configuration_page_bytes(MOST_TYPES, MOST_TYPES * MOST_TEXT),

@@ -6,6 +6,7 @@ mod element;
 mod hex;
 mod library;
 mod limits;
+mod names;
 mod pages;
 mod record;
 mod rng;

@@ -1,5 +1,5 @@
-//! The pages 01h, 02h and 05h: what the readers of each hand back, what those that act do to a shelf, and
-//! which is best for a wish.
+//! The pages 01h, 02h, 05h and 07h: what the readers of each hand back, what those that act do to a shelf, and
+//! which is best for a wish; and the names of a shelf.
 
 mod before;
 mod builder;
@@ -9,6 +9,7 @@ pub mod compare;
 mod configuration;
 mod control;
 mod coverage;
+mod descriptors;
 mod status;
 mod threshold_out;
 mod thresholds;
@@ -34,6 +35,8 @@ pub enum Refusal {
     Entries,
     Unreachable,
     OutputTooShort,
+    /// Or no such type, for an overall one.
+    NoSuchElement,
 }
 
 impl Refusal {
@@ -51,6 +54,7 @@ impl Refusal {
             Refusal::Unreachable => 10,
             Refusal::OutputTooShort => 11,
             Refusal::NeededLength => 12,
+            Refusal::NoSuchElement => 15,
         }
     }
 
@@ -175,7 +179,7 @@ impl TypeElements {
     }
 }
 
-/// A record 02h or 05h in parts: two leading bytes, and as many entries as the configuration has
+/// A record 02h, 05h or 07h in parts: two leading bytes, and as many entries as the configuration has
 /// places. Refusal 9 if it says another number.
 fn parts<const N: usize>(
     configuration: &Configuration,

@@ -3,8 +3,9 @@
 use crate::bits::{bit, flag};
 use crate::limits::{
     ELEMENT_BYTES, FASTEST, FIRST_LETTER, HIGHEST_NOMINAL, HIGHEST_SPEED, LAST_LETTER,
-    MOST_ELEMENTS, MOST_OF_TYPE, MOST_TEXT, MOST_TYPES, SLOT_BYTES, TEXT_AT_IN_SLOT,
+    MOST_ELEMENTS, MOST_OF_TYPE, MOST_TEXT, MOST_TYPES, NAME_BYTES, SLOT_BYTES, TEXT_AT_IN_SLOT,
 };
+use std::iter::once;
 
 #[derive(Clone, Debug, PartialEq, Eq)]
 pub struct Shelf {
@@ -27,7 +28,15 @@ pub struct Group {
     pub kind: Kind,
     pub text: Vec<u8>,
     pub elements: Vec<Element>,
+    pub overall_name: Name,
+    /// One for each element.
+    pub names: Vec<Name>,
 }
+
+/// All that a block keeps for a name. Its letters end before the first byte that is none; what stands behind
+/// them has no meaning, and stays as it is until the name is set.
+#[derive(Clone, Copy, Debug, PartialEq, Eq)]
+pub struct Name(pub [u8; NAME_BYTES]);
 
 /// A shelf but for what its elements hold: all that a configuration page tells.
 #[derive(Clone, Debug, PartialEq, Eq)]
@@ -140,10 +149,18 @@ impl Shelf {
         }
     }
 
+    /// Of all places of a page, in their order.
+    pub fn names(&self) -> impl Iterator<Item = &Name> {
+        self.groups.iter().flat_map(Group::all_names)
+    }
+
     pub fn block(&self) -> Vec<u8> {
         let mut block = self.configuration().block();
         for element in self.elements() {
             block.extend(element.bytes());
+        }
+        for Name(bytes) in self.names() {
+            block.extend(bytes);
         }
         block
     }
@@ -153,6 +170,12 @@ impl Shelf {
         let mut groups = Vec::new();
         for entry in configuration.types {
             groups.push(Group::parse(entry, cursor)?);
+        }
+        for group in &mut groups {
+            group.overall_name = Name(cursor.take()?);
+            for name in &mut group.names {
+                *name = Name(cursor.take()?);
+            }
         }
         Some(Shelf {
             generation: configuration.generation,
@@ -234,14 +257,57 @@ impl Identification {
     }
 }
 
+impl Name {
+    pub const EMPTY: Name = Name([0; NAME_BYTES]);
+
+    /// The name of just these letters. None if they are too many, or one is no letter.
+    pub fn of(text: &[u8]) -> Option<Name> {
+        if !text.iter().all(is_letter) {
+            return None;
+        }
+        let mut name = Name::EMPTY;
+        name.0.get_mut(..text.len())?.copy_from_slice(text);
+        Some(name)
+    }
+
+    pub fn letters(&self) -> &[u8] {
+        let letters = self.0.iter().take_while(|byte| is_letter(byte)).count();
+        &self.0[..letters]
+    }
+}
+
+pub fn is_letter(byte: &u8) -> bool {
+    (FIRST_LETTER..=LAST_LETTER).contains(byte)
+}
+
 impl Group {
+    /// No element has a name, and they have none together.
+    pub fn nameless(kind: Kind, text: Vec<u8>, elements: Vec<Element>) -> Group {
+        Group {
+            kind,
+            text,
+            overall_name: Name::EMPTY,
+            names: vec![Name::EMPTY; elements.len()],
+            elements,
+        }
+    }
+
+    /// One element more, without a name.
+    pub fn add(&mut self, element: Element) {
+        self.elements.push(element);
+        self.names.push(Name::EMPTY);
+    }
+
+    /// The overall one first.
+    pub fn all_names(&self) -> impl Iterator<Item = &Name> {
+        assert_eq!(self.names.len(), self.elements.len(), "a name each");
+        once(&self.overall_name).chain(&self.names)
+    }
+
     fn well_formed(&self) -> bool {
         self.elements.len() <= MOST_OF_TYPE
             && self.text.len() <= MOST_TEXT
-            && self
-                .text
-                .iter()
-                .all(|letter| (FIRST_LETTER..=LAST_LETTER).contains(letter))
+            && self.text.iter().all(is_letter)
             && self
                 .elements
                 .iter()
@@ -262,21 +328,14 @@ impl Group {
         for _ in 0..entry.count {
             elements.push(Element::parse(entry.kind, cursor)?);
         }
-        Some(Group {
-            kind: entry.kind,
-            text: entry.text,
-            elements,
-        })
+        Some(Group::nameless(entry.kind, entry.text, elements))
     }
 }
 
 impl Type {
     fn plain_group(&self) -> Group {
-        Group {
-            kind: self.kind,
-            text: self.text.clone(),
-            elements: vec![Element::plain(self.kind); self.count],
-        }
+        let elements = vec![Element::plain(self.kind); self.count];
+        Group::nameless(self.kind, self.text.clone(), elements)
     }
 
     fn slot(&self) -> [u8; SLOT_BYTES] {
@@ -586,15 +645,15 @@ pub struct Cursor<'a> {
     pub rest: &'a [u8],
 }
 
-impl Cursor<'_> {
+impl<'a> Cursor<'a> {
     pub fn take<const N: usize>(&mut self) -> Option<[u8; N]> {
         let taken = self.rest.get(..N)?.try_into().ok()?;
         self.rest = &self.rest[N..];
         Some(taken)
     }
 
-    pub fn take_some(&mut self, length: usize) -> Option<Vec<u8>> {
-        let taken = self.rest.get(..length)?.to_vec();
+    pub fn take_some(&mut self, length: usize) -> Option<&'a [u8]> {
+        let taken = self.rest.get(..length)?;
         self.rest = &self.rest[length..];
         Some(taken)
     }

@@ -6,6 +6,7 @@ mod building;
 mod checks;
 mod elements;
 pub mod examples;
+mod names;
 mod offsets;
 mod pages;
 
@@ -17,6 +18,7 @@ pub fn run() -> bool {
     pages::check(&mut checks);
     acting::check(&mut checks);
     offsets::check(&mut checks);
+    names::check(&mut checks);
     building::check(&mut checks);
     checks.tell()
 }

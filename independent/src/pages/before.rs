@@ -163,7 +163,7 @@ impl Told {
         }
         let mut texts = Vec::new();
         for [_, _, _, length] in &headers {
-            texts.push(cursor.take_some((*length).into())?);
+            texts.push(cursor.take_some((*length).into())?.to_vec());
         }
         cursor.rest.is_empty().then_some(Told {
             generation,

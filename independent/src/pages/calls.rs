@@ -1,5 +1,6 @@
-//! The twelve calls on bytes, as the C library has them.
+//! The eighteen calls on bytes, as the C library has them.
 
+use super::descriptors::{self, NameList};
 use super::status::Status;
 use super::thresholds::ThresholdList;
 use super::{builder, configuration, control, threshold_out, Refusal};
@@ -29,15 +30,29 @@ impl Answer {
         self.wide_number(1)
     }
 
-    /// The record or shelf, for a call that hands one back.
+    /// The record or shelf, for a call that hands one back behind an offset.
     pub fn record(&self) -> &[u8] {
         &self.bytes[5..]
+    }
+
+    /// The element that has the name, for the call that looks for one.
+    pub fn found(&self) -> Option<usize> {
+        let element = self.wide_number(1);
+        (element != NO_ELEMENT).then_some(element)
+    }
+
+    /// For a call that sets a name.
+    pub fn shelf(&self) -> &[u8] {
+        &self.bytes[1..]
     }
 
     fn wide_number(&self, at: usize) -> usize {
         wide_number(&self.bytes[at..])
     }
 }
+
+/// Told if no element has the name.
+const NO_ELEMENT: usize = u32::MAX as usize;
 
 fn wide_number(bytes: &[u8]) -> usize {
     let bytes = bytes[..4].try_into().expect("four bytes");
@@ -55,11 +70,13 @@ pub struct Call {
 }
 
 /// By the number of buffers it looks at; the last buffer is the one that it may change. A call that acts
-/// may change the first, the shelf.
+/// may change the first, the shelf, and one that only asks may change none. A number handed in is a buffer too.
 enum Rule {
     OfOne(fn(&[u8], &[u8]) -> Answer),
     OfTwo(fn(&[u8], &[u8], &[u8]) -> Answer),
+    Asking(fn(&[u8], &[u8]) -> Answer),
     Acting(fn(&[u8], &[u8]) -> Answer),
+    Setting(fn(&[u8], u32, &[u8]) -> Answer),
 }
 
 pub static WRITE_CONFIGURATION: Call = Call {
@@ -158,7 +175,55 @@ pub static BUILD_CONTROL: Call = Call {
     rule: Rule::OfTwo(build_control),
 };
 
-pub static ALL: [&Call; 12] = [
+pub static WRITE_DESCRIPTORS: Call = Call {
+    name: "write_descriptors",
+    letter: b'M',
+    outcomes: &[0, 1, 11],
+    tells: &["written"],
+    rule: Rule::OfOne(write_descriptors),
+};
+
+pub static READ_DESCRIPTORS: Call = Call {
+    name: "read_descriptors",
+    letter: b'N',
+    outcomes: &[0, 1, 2, 3, 4, 5, 6, 12],
+    tells: &["offset"],
+    rule: Rule::OfTwo(read_descriptors),
+};
+
+pub static REWRITE_DESCRIPTORS: Call = Call {
+    name: "rewrite_descriptors",
+    letter: b'O',
+    outcomes: &[0, 1, 6, 9, 11],
+    tells: &["written"],
+    rule: Rule::OfTwo(rewrite_descriptors),
+};
+
+pub static FIND_NAME: Call = Call {
+    name: "find_name",
+    letter: b'P',
+    outcomes: &[0, 1],
+    tells: &["element"],
+    rule: Rule::Asking(find_name),
+};
+
+pub static SET_NAME: Call = Call {
+    name: "set_name",
+    letter: b'Q',
+    outcomes: &[0, 1, 6, 15],
+    tells: &[],
+    rule: Rule::Setting(set_name),
+};
+
+pub static SET_OVERALL_NAME: Call = Call {
+    name: "set_overall_name",
+    letter: b'R',
+    outcomes: &[0, 1, 6, 15],
+    tells: &[],
+    rule: Rule::Setting(set_overall_name),
+};
+
+pub static ALL: [&Call; 18] = [
     &WRITE_CONFIGURATION,
     &WRITE_STATUS,
     &WRITE_THRESHOLDS,
@@ -171,6 +236,12 @@ pub static ALL: [&Call; 12] = [
     &APPLY_CONTROL,
     &APPLY_THRESHOLDS,
     &BUILD_CONTROL,
+    &WRITE_DESCRIPTORS,
+    &READ_DESCRIPTORS,
+    &REWRITE_DESCRIPTORS,
+    &FIND_NAME,
+    &SET_NAME,
+    &SET_OVERALL_NAME,
 ];
 
 impl Call {
@@ -178,7 +249,12 @@ impl Call {
         match (&self.rule, inputs) {
             (Rule::OfOne(rule), [input]) => rule(input, lent),
             (Rule::OfTwo(rule), [first, second]) => rule(first, second, lent),
+            (Rule::Asking(rule), [first, second]) => rule(first, second),
             (Rule::Acting(rule), [page]) => rule(lent, page),
+            (Rule::Setting(rule), [number, text]) => {
+                let number = number[..].try_into().expect("a number of four bytes");
+                rule(lent, u32::from_be_bytes(number), text)
+            }
             _ => panic!("{} takes another number of buffers", self.name),
         }
     }
@@ -197,7 +273,8 @@ impl Call {
         let mut buffers: Vec<&[u8]> = inputs.iter().map(Vec::as_slice).collect();
         match self.rule {
             Rule::OfOne(_) | Rule::OfTwo(_) => buffers.push(lent),
-            Rule::Acting(_) => buffers.insert(0, lent),
+            Rule::Asking(_) => {}
+            Rule::Acting(_) | Rule::Setting(_) => buffers.insert(0, lent),
         }
         buffers
     }
@@ -278,6 +355,45 @@ pub fn build_control(shelf: &[u8], wanted: &[u8], out: &[u8]) -> Answer {
     told(number, &numbers, laid_over(page, out))
 }
 
+pub fn write_descriptors(shelf: &[u8], out: &[u8]) -> Answer {
+    let page = |shelf: Shelf| NameList::of(&shelf).page(shelf.generation);
+    wrote(well_formed_shelf(shelf).map(page), out)
+}
+
+pub fn read_descriptors(configuration: &[u8], page: &[u8], before: &[u8]) -> Answer {
+    let read = well_formed(configuration)
+        .and_then(|configuration| NameList::read(&configuration, page))
+        .map(|names| names.record());
+    handed_back(read, before)
+}
+
+pub fn rewrite_descriptors(configuration: &[u8], record: &[u8], out: &[u8]) -> Answer {
+    let page = |configuration: Configuration| {
+        let names = NameList::from_record(&configuration, record)?;
+        Ok(names.page(configuration.generation))
+    };
+    wrote(well_formed(configuration).and_then(page), out)
+}
+
+/// The number, and four bytes with the element found.
+pub fn find_name(shelf: &[u8], text: &[u8]) -> Answer {
+    match well_formed_shelf(shelf).map(|shelf| descriptors::found(&shelf, text)) {
+        Ok(Some(element)) => told(0, &[element], Vec::new()),
+        Ok(None) => told(0, &[NO_ELEMENT], Vec::new()),
+        Err(refusal) => told(refusal.number(), &[NO_ELEMENT], Vec::new()),
+    }
+}
+
+pub fn set_name(shelf: &[u8], element: u32, text: &[u8]) -> Answer {
+    let after = |shelf: Shelf| descriptors::named(&shelf, element as usize, text);
+    set(well_formed_shelf(shelf).and_then(after), shelf)
+}
+
+pub fn set_overall_name(shelf: &[u8], of_type: u32, text: &[u8]) -> Answer {
+    let after = |shelf: Shelf| descriptors::named_overall(&shelf, of_type as usize, text);
+    set(well_formed_shelf(shelf).and_then(after), shelf)
+}
+
 fn well_formed_shelf(block: &[u8]) -> Result<Shelf, Refusal> {
     record::read(block)
         .filter(Shelf::well_formed)
@@ -302,6 +418,12 @@ fn handed_back(record: Result<Vec<u8>, Refusal>, before: &[u8]) -> Answer {
     };
     let (number, record) = outcome(record);
     told(number, &[offset], laid_over(record, before))
+}
+
+/// The number and the shelf.
+fn set(after: Result<Shelf, Refusal>, before: &[u8]) -> Answer {
+    let (number, after) = outcome(after.map(|shelf| shelf.block()));
+    told(number, &[], laid_over(after, before))
 }
 
 fn fitting(page: Vec<u8>, out: &[u8]) -> Result<Vec<u8>, Refusal> {

@@ -6,7 +6,9 @@ pub mod case;
 mod changes;
 mod configuration;
 pub mod control;
+pub mod descriptors;
 mod flaws;
+mod naming;
 mod reading;
 mod rewriting;
 mod shapes;
@@ -18,12 +20,13 @@ use crate::rng::Rng;
 use case::{Case, Offer};
 
 /// Pages with one to four offending bytes, for each call that reads or applies a page.
-pub const OFFENDING: [fn(&mut Rng) -> Case; 5] = [
+pub const OFFENDING: [fn(&mut Rng) -> Case; 6] = [
     configuration::offending,
     reading::offending_status,
     reading::offending_thresholds,
     control::offending,
     threshold_out::offending,
+    descriptors::offending,
 ];
 
 pub fn offer_all(rng: &mut Rng, offer: Offer) {
@@ -34,6 +37,8 @@ pub fn offer_all(rng: &mut Rng, offer: Offer) {
     control::offer_all(rng, offer);
     threshold_out::offer_all(rng, offer);
     building::offer_all(rng, offer);
+    descriptors::offer_all(rng, offer);
+    naming::offer_all(rng, offer);
     for offending in OFFENDING {
         for _ in 0..1_500 {
             offer(offending(rng));

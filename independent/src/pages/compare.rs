@@ -1,4 +1,4 @@
-//! Compares the twelve calls on pages with the library's.
+//! Compares the eighteen calls on pages and names with the library's.
 
 use super::before;
 use super::cases::{self, case::Case};

@@ -108,7 +108,7 @@ fn told(page: &[u8]) -> Option<Configuration> {
         types.push(Type {
             kind: Kind::from_code(header[0])?,
             count: header[1].into(),
-            text: texts.take_some(header[3].into())?,
+            text: texts.take_some(header[3].into())?.to_vec(),
         });
     }
     Some(Configuration {

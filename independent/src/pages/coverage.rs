@@ -1,5 +1,6 @@
 //! How often the calls compared brought up each thing that they can.
 
+mod names;
 mod refused;
 mod tally;
 
@@ -14,6 +15,7 @@ use crate::bits::{bit, flag};
 use crate::limits::STATUS_ENTRY_BYTES;
 use crate::record::{self, Configuration, Group, Shelf};
 use crate::shown::Place;
+use names::Names;
 use refused::Refused;
 use std::iter::zip;
 use tally::{kind_name, place_name, Table, Tally, LEAST_OF_EACH};
@@ -133,6 +135,7 @@ const BUILT_OVERALL: Table = Table {
 pub struct Coverage {
     outcomes: Tally,
     refused: Refused,
+    names: Names,
     codes: Tally,
     read: Tally,
     rewritten: Tally,
@@ -153,6 +156,7 @@ impl Coverage {
         if call.outcomes.contains(&Refusal::NeededLength.number()) {
             self.refused.count(case, answer);
         }
+        self.names.count(case, answer);
         if call.letter == REWRITE_STATUS.letter && answer.number == Refusal::NotAllowed.number() {
             self.count_fault(&inputs[0], &inputs[1]);
         }
@@ -201,6 +205,7 @@ impl Coverage {
             enough &= tally.print(table);
         }
         enough &= self.refused.print();
+        enough &= self.names.print();
         if !enough {
             println!("too few: at least {LEAST_OF_EACH} of each are wanted");
         }

@@ -2,8 +2,8 @@
 
 use super::checks::Checks;
 use super::examples::{
-    block_a, current, fan, fan_with, group, handed_back, plain, shelf_a, shelf_a_of, temperature,
-    wishes_of_the_paper, with, NOISE, RST_SWAP, SPEED_5, SWAP, UNSELECTED,
+    block_a, current, elements_in, fan, fan_with, group, handed_back, plain, shelf_a, shelf_a_of,
+    temperature, wishes_of_the_paper, with, NOISE, RST_SWAP, SPEED_5, SWAP, UNSELECTED,
 };
 use crate::cases;
 use crate::limits::{ELEMENTS_AT, ELEMENT_BYTES, HIGHEST_SPEED, TYPES_AT};
@@ -364,7 +364,7 @@ fn order_in_one_of_many(checks: &mut Checks) {
 fn alike_but_for(from: usize, before: &[u8], after: &[u8]) -> bool {
     let without = |block: &[u8]| {
         let mut rest = block.to_vec();
-        for element in rest[ELEMENTS_AT..].chunks_mut(ELEMENT_BYTES) {
+        for element in rest[elements_in(block)].chunks_mut(ELEMENT_BYTES) {
             element[from..from + 4].fill(0);
         }
         rest

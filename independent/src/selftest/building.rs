@@ -3,8 +3,8 @@
 
 use super::checks::Checks;
 use super::examples::{
-    block_a, fan, fan_with, fans_a, group, plain, shelf_a, shelf_a_of, wishes_of_the_paper, with,
-    Example, BEFORE, NOISE, RST_SWAP, SWAP, UNSELECTED,
+    block_a, elements_in, fan, fan_with, fans_a, group, plain, shelf_a, shelf_a_of,
+    wishes_of_the_paper, with, Example, BEFORE, NOISE, RST_SWAP, SWAP, UNSELECTED,
 };
 use crate::cases;
 use crate::element::Request;
@@ -31,7 +31,7 @@ pub fn check(checks: &mut Checks) {
 
 /// The settings of all elements, as the wanted list has them.
 fn settings_of(block: &[u8]) -> Vec<u8> {
-    let elements = block[ELEMENTS_AT..].chunks(ELEMENT_BYTES);
+    let elements = block[elements_in(block)].chunks(ELEMENT_BYTES);
     elements
         .flat_map(|element| &element[..4])
         .copied()

@@ -6,7 +6,7 @@ use super::examples::{
     low_warning, shelf_a, temperature, voltage,
 };
 use crate::element::{Code, Limits, Verdict};
-use crate::limits::{block_bytes, HIGHEST_NOMINAL, LONGEST_BLOCK, SLOTS_AT, TYPES_AT};
+use crate::limits::{element_at, HIGHEST_NOMINAL, LONGEST_BLOCK, SLOTS_AT, TYPES_AT};
 use crate::record::{self, Element, FanSettings, Kind, Settings, Thresholds};
 
 pub fn check(checks: &mut Checks) {
@@ -198,7 +198,7 @@ fn thresholds(checks: &mut Checks) {
 fn block_of_fans_a(checks: &mut Checks) {
     let shelf = shelf_a(fans_a().to_vec());
     let block = shelf.block();
-    checks.equal("length of A", block.len(), block_bytes(3));
+    checks.equal("length of A", block.len(), 332 + 3 * 16 + 4 * 32);
     checks.equal("generation of A", &block[..4], &[0, 0, 0, 7]);
     checks.equal("types of A", &block[TYPES_AT..SLOTS_AT], &[1, 0, 0, 0]);
     checks.equal(
@@ -207,13 +207,14 @@ fn block_of_fans_a(checks: &mut Checks) {
         &[3, 3, 3, 0, b'F', b'a', b'n'],
     );
     let element = [0, 0, 0, 0x23, 0, 0, 0, 0, 0, 0x78, 0, 0, 0, 0, 0, 0];
-    checks.equal("last fan of A", &block[block_bytes(2)..], &element);
+    checks.equal("last fan of A", &block[element_at(2)..][..16], &element);
+    checks.equal("names of A", &block[element_at(3)..], &[0; 4 * 32]);
     checks.equal("A is well formed", shelf.well_formed(), true);
     checks.equal("A read back", record::read(&block), Some(shelf));
     let mut largest = largest_shelf();
     checks.equal("longest block", largest.block().len(), LONGEST_BLOCK);
     checks.equal("most elements", largest.well_formed(), true);
     let last = largest.groups.last_mut().expect("a type");
-    last.elements.push(fan(3));
+    last.add(fan(3));
     checks.equal("an element more", largest.well_formed(), false);
 }

@@ -1,10 +1,13 @@
 //! Shelf A, and shelves, elements and requests like those of the paper's examples.
 
-use crate::limits::{MOST_ELEMENTS, MOST_OF_TYPE};
+use crate::limits::{
+    element_at, ELEMENTS_AT, MOST_ELEMENTS, MOST_OF_TYPE, MOST_TYPES, SLOTS_AT, SLOT_BYTES,
+};
 use crate::pages::calls::Answer;
 use crate::record::{
     Element, FanSettings, Group, Identification, Kind, Settings, Shelf, Thresholds,
 };
+use std::ops::Range;
 
 /// Memory before a call.
 pub const BEFORE: u8 = 0xA5;
@@ -192,15 +195,12 @@ pub fn shelf_a(elements: Vec<Element>) -> Shelf {
             product: [0; 16],
             revision: [0; 4],
         },
-        groups: vec![Group {
-            kind: Kind::Cooling,
-            text: b"Fan".to_vec(),
-            elements,
-        }],
+        groups: vec![group(Kind::Cooling, elements)],
     }
 }
 
-/// A shelf like A, with as many fans as a shelf may have, in as few types as may be.
+/// A shelf like A, with as many fans as a shelf may have, in as few types as may be, and the other types
+/// without elements.
 pub fn largest_shelf() -> Shelf {
     let mut shelf = shelf_a(Vec::new());
     let fans = vec![fan(3); MOST_ELEMENTS];
@@ -208,7 +208,16 @@ pub fn largest_shelf() -> Shelf {
     shelf.groups = types
         .map(|fans| group(Kind::Cooling, fans.to_vec()))
         .collect();
+    let nothing = group(Kind::Cooling, Vec::new());
+    shelf.groups.resize(MOST_TYPES, nothing);
     shelf
+}
+
+/// Where a well-formed block has its elements, one behind the other.
+pub fn elements_in(block: &[u8]) -> Range<usize> {
+    let slots = block[SLOTS_AT..ELEMENTS_AT].chunks(SLOT_BYTES);
+    let elements = slots.map(|slot| usize::from(slot[1])).sum();
+    ELEMENTS_AT..element_at(elements)
 }
 
 /// A shelf like A, with elements of this type.
@@ -219,11 +228,7 @@ pub fn shelf_a_of(kind: Kind, elements: Vec<Element>) -> Shelf {
 }
 
 pub fn group(kind: Kind, elements: Vec<Element>) -> Group {
-    Group {
-        kind,
-        text: b"Fan".to_vec(),
-        elements,
-    }
+    Group::nameless(kind, b"Fan".to_vec(), elements)
 }
 
 pub fn plain(kind: Kind) -> Element {

@@ -7,7 +7,9 @@ use crate::limits::{
     equal_share, CONFIGURATION_BYTES, FIRST_LETTER, HIGHEST_CODE, LAST_LETTER, MOST_ELEMENTS,
     MOST_OF_TYPE, MOST_TEXT, MOST_TYPES, STATUS_BYTES, THRESHOLDS_BYTES,
 };
-use crate::pages::calls::{apply_control, read_configuration, read_status, read_thresholds};
+use crate::pages::calls::{
+    apply_control, read_configuration, read_status, read_thresholds, READ_DESCRIPTORS,
+};
 use crate::pages::cases::case::Case;
 use crate::pages::cases::OFFENDING;
 use crate::rng::Rng;
@@ -226,9 +228,10 @@ fn laws(checks: &mut Checks) {
 }
 
 /// With any byte behind the offset changed, the page is refused the same, if the tests before 6 still let it
-/// pass.
+/// pass. A length of two bytes is told at its first and offends with both.
 fn nothing_behind_matters(checks: &mut Checks, rng: &mut Rng, case: &mut Case, told: (u8, usize)) {
-    for at in told.1 + 1..page_of(case).len() {
+    let offending_bytes = if is_wide(case, told.1) { 2 } else { 1 };
+    for at in told.1 + offending_bytes..page_of(case).len() {
         let byte = page_of(case)[at];
         page_of(case)[at] ^= rng.nonzero_byte();
         let outcome = case.number_and_offset();
@@ -248,6 +251,19 @@ fn another_byte_is_allowed(checks: &mut Checks, case: &mut Case, told: (u8, usiz
     });
     checks.equal("another byte is allowed there", allowed, true);
     page_of(case)[told.1] = byte;
+}
+
+/// The length of a descriptor starts at this byte.
+fn is_wide(case: &Case, offset: usize) -> bool {
+    if case.call.letter != READ_DESCRIPTORS.letter {
+        return false;
+    }
+    let page = &case.inputs[1];
+    let mut at = 8;
+    while at + 2 < offset {
+        at += 4 + 256 * usize::from(page[at + 2]) + usize::from(page[at + 3]);
+    }
+    at + 2 == offset
 }
 
 fn page_of(case: &mut Case) -> &mut Vec<u8> {

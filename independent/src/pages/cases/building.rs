@@ -8,7 +8,7 @@ use super::flaws::break_block;
 use super::shapes::{between_two, one_of_each, shelf, some_of_each};
 use super::wishes::{all_changed, any_setting, as_stored, Few, Pair, Pattern, PATTERNS, SWAP};
 use crate::cases::{group, malformed_block, one_type, shelf_of};
-use crate::limits::{block_bytes, element_page_bytes, most_elements_of, MOST_ELEMENTS, TYPES_AT};
+use crate::limits::{element_at, element_page_bytes, most_elements_of, MOST_ELEMENTS, TYPES_AT};
 use crate::pages::builder::selects;
 use crate::pages::calls::BUILD_CONTROL;
 use crate::record::{Kind, Shelf};
@@ -331,7 +331,7 @@ fn with_flaws(rng: &mut Rng, numbers: &[u8]) -> Case {
 fn want_swap(wish: &mut Wish, rng: &mut Rng) {
     let element = rng.range(0, wish.elements() - 1);
     let [swap, ..] = SWAP.to_be_bytes();
-    wish.block[block_bytes(element)] &= !swap;
+    wish.block[element_at(element)] &= !swap;
     wish.wanted[4 * element] |= swap;
 }
 
@@ -349,7 +349,7 @@ fn not_a_list(wish: &mut Wish, rng: &mut Rng) {
 fn other_record(wish: &mut Wish, rng: &mut Rng) {
     let element = rng.range(0, wish.elements() - 1);
     let bits = &mut wish.wanted[4 * element..4 * element + 4];
-    let fan = wish.block[block_bytes(element) + 3] & 0x07 != 0;
+    let fan = wish.block[element_at(element) + 3] & 0x07 != 0;
     match (rng.range(0, 3), fan) {
         (0, _) => bits[0] |= 0x80,
         (1, _) => bits[rng.range(1, 2)] |= 1 << rng.range(0, 5),

@@ -1,6 +1,6 @@
 //! One call to compare, and output buffers of telling lengths for it.
 
-use crate::limits::{LONGEST_PAGE, LONGEST_SAID};
+use crate::limits::{LONGEST_DESCRIPTOR_PAGE, LONGEST_PAGE, LONGEST_SAID};
 use crate::pages::calls::{Answer, Call};
 use crate::rng::Rng;
 
@@ -26,7 +26,7 @@ impl Case {
     }
 }
 
-/// As long as any page that a shelf has, and longer.
+/// As long as any page that a shelf has, but for 07h, and longer.
 pub const ROOM: usize = LONGEST_PAGE + 64;
 
 /// A call that writes, with an output buffer of a telling length.
@@ -40,7 +40,7 @@ pub fn writing_case(rng: &mut Rng, call: &'static Call, inputs: Vec<Vec<u8>>) ->
     }
 }
 
-/// A call that writes, with room for any page.
+/// A call that writes another page than 07h, with room for any.
 pub fn roomy_case(rng: &mut Rng, call: &'static Call, inputs: Vec<Vec<u8>>) -> Case {
     Case {
         call,
@@ -62,8 +62,8 @@ pub fn every_output_length(rng: &mut Rng, call: &'static Call, inputs: &[Vec<u8>
 
 /// Empty if the call refuses.
 pub fn page_written(call: &Call, inputs: &[Vec<u8>]) -> Vec<u8> {
-    let answer = call.answer(inputs, &[0; ROOM]);
-    let out = &answer.bytes[answer.bytes.len() - ROOM..];
+    let answer = call.answer(inputs, &[0; LONGEST_DESCRIPTOR_PAGE]);
+    let out = &answer.bytes[answer.bytes.len() - LONGEST_DESCRIPTOR_PAGE..];
     out[..answer.written()].to_vec()
 }
 

@@ -5,7 +5,7 @@ use super::case::{Case, Offer};
 use super::flaws::Attempt;
 use super::shapes::shelf;
 use crate::cases::one_type;
-use crate::limits::{block_bytes, most_elements_of, ELEMENTS_AT, ELEMENT_BYTES};
+use crate::limits::{element_at, most_elements_of, ELEMENTS_AT, ELEMENT_BYTES};
 use crate::pages::calls::APPLY_CONTROL;
 use crate::record::{Kind, Shelf};
 use crate::rng::Rng;
@@ -179,7 +179,7 @@ fn any_overall(rng: &mut Rng, kind: Kind) -> u32 {
 pub fn with_settings(shelf: &Shelf, stored: &[u32]) -> Vec<u8> {
     let mut block = shelf.block();
     for (place, settings) in stored.iter().enumerate() {
-        let at = block_bytes(place);
+        let at = element_at(place);
         block[at..at + 4].copy_from_slice(&settings.to_be_bytes());
     }
     block

@@ -4,9 +4,10 @@ use super::case::{Case, Offer};
 use super::changes::say_own_length;
 use crate::cases::{element, group};
 use crate::limits::{
-    configuration_page_bytes, ELEMENTS_AT, MOST_TYPES, PAGE_TYPES_AT, SLOTS_AT, TYPES_AT,
+    configuration_page_bytes, descriptor_page_bytes, element_at, DESCRIPTOR_HEAD_BYTES, MOST_TYPES,
+    PAGE_TYPES_AT, SLOTS_AT, TYPES_AT,
 };
-use crate::record::{Kind, Shelf};
+use crate::record::{self, Kind, Shelf};
 use crate::rng::Rng;
 
 /// A call on a page for this shelf.
@@ -99,8 +100,9 @@ pub fn break_block(block: &mut Vec<u8>, rng: &mut Rng) {
         1 => block.truncate(block.len() - 1),
         _ => {
             let mut zeros = vec![TYPES_AT + 1, TYPES_AT + 2, TYPES_AT + 3, SLOTS_AT + 3];
-            if block.len() > ELEMENTS_AT {
-                zeros.push(block.len() - 1);
+            let elements = record::read(block).map_or(0, |shelf| shelf.elements().count());
+            if elements > 0 {
+                zeros.push(element_at(elements) - 1);
             }
             block[rng.pick(&zeros)] = rng.nonzero_byte();
         }
@@ -132,6 +134,7 @@ fn other_length_than_needed(attempt: &mut Attempt, rng: &mut Rng) {
         0 => page.truncate(page.len() - rng.range(1, 8)),
         1 => page.extend(vec![0; rng.range(1, 8)]),
         _ if page[0] == 0x01 => announce_others(page, rng),
+        2 if page[0] == 0x07 => declare_others(attempt, rng),
         _ => {
             let other = with_other_types(&attempt.shelf, rng);
             attempt.give_block_of(&other);
@@ -151,6 +154,22 @@ fn announce_others(page: &mut [u8], rng: &mut Rng) {
     }
 }
 
+/// The last descriptor of a page gets another length, or any of them one that is far too large.
+fn declare_others(attempt: &mut Attempt, rng: &mut Rng) {
+    let places = attempt.shelf.configuration().places().len();
+    let page = attempt.page();
+    let mut at = descriptor_page_bytes(0, 0);
+    for _ in 1..places {
+        if rng.one_in(places) {
+            page[at + 2..at + 4].fill(0xFF);
+            return;
+        }
+        let declared = u16::from_be_bytes([page[at + 2], page[at + 3]]);
+        at += DESCRIPTOR_HEAD_BYTES + usize::from(declared);
+    }
+    page[at + rng.range(2, 3)] ^= rng.nonzero_byte();
+}
+
 /// An element more or less, or a type without elements more or one with its elements less.
 fn with_other_types(shelf: &Shelf, rng: &mut Rng) -> Shelf {
     let mut other = shelf.clone();
@@ -166,10 +185,11 @@ fn with_other_types(shelf: &Shelf, rng: &mut Rng) -> Shelf {
         }
         2 if !other.groups[place].elements.is_empty() => {
             other.groups[place].elements.pop();
+            other.groups[place].names.pop();
         }
         _ => {
             let kind = other.groups[place].kind;
-            other.groups[place].elements.push(element(rng, kind));
+            other.groups[place].add(element(rng, kind));
         }
     }
     other

@@ -11,7 +11,9 @@ use super::shapes::{one_of_each, shelf, some_of_each};
 use super::threshold_out::{out_of_order, set_one_not_had};
 use crate::cases::malformed_block;
 use crate::limits::{CONFIGURATION_BYTES, HIGHEST_CODE, STATUS_BYTES, THRESHOLDS_BYTES, TYPES_AT};
-use crate::pages::calls::{Call, READ_STATUS, READ_THRESHOLDS, WRITE_STATUS, WRITE_THRESHOLDS};
+use crate::pages::calls::{
+    Call, READ_STATUS, READ_THRESHOLDS, WRITE_DESCRIPTORS, WRITE_STATUS, WRITE_THRESHOLDS,
+};
 use crate::record::{Configuration, Kind, Shelf};
 use crate::rng::Rng;
 use crate::shown::Place;
@@ -81,6 +83,11 @@ pub fn accepted_status(rng: &mut Rng, shelf: &Shelf) -> Vec<Vec<u8>> {
 
 pub fn accepted_thresholds(_: &mut Rng, shelf: &Shelf) -> Vec<Vec<u8>> {
     let page = page_written(&WRITE_THRESHOLDS, &[shelf.block()]);
+    vec![shelf.configuration().block(), page]
+}
+
+pub fn accepted_descriptors(_: &mut Rng, shelf: &Shelf) -> Vec<Vec<u8>> {
+    let page = page_written(&WRITE_DESCRIPTORS, &[shelf.block()]);
     vec![shelf.configuration().block(), page]
 }
 

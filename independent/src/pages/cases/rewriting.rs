@@ -2,14 +2,18 @@
 
 use super::case::{every_output_length, roomy_case, writing_case, Offer};
 use super::changes::{with, with_every_quadruple, with_every_value};
-use super::reading::{accepted_status, accepted_thresholds, other_configuration};
+use super::reading::{
+    accepted_descriptors, accepted_status, accepted_thresholds, other_configuration,
+};
 use super::shapes::{one_of_each, shelf, some_of_each};
 use crate::limits::{
     record_bytes, CONFIGURATION_BYTES, FIRST_LETTER, LAST_LETTER, MOST_ENTRIES, MOST_OF_TYPE,
-    MOST_TEXT, STATUS_BYTES, STATUS_ENTRY_BYTES, THRESHOLDS_BYTES, THRESHOLD_ENTRY_BYTES, TYPES_AT,
+    MOST_TEXT, NAMES_BYTES, NAME_BYTES, STATUS_BYTES, STATUS_ENTRY_BYTES, THRESHOLDS_BYTES,
+    THRESHOLD_ENTRY_BYTES, TYPES_AT,
 };
 use crate::pages::calls::{
-    Call, READ_STATUS, READ_THRESHOLDS, REWRITE_CONFIGURATION, REWRITE_STATUS, REWRITE_THRESHOLDS,
+    Call, READ_DESCRIPTORS, READ_STATUS, READ_THRESHOLDS, REWRITE_CONFIGURATION,
+    REWRITE_DESCRIPTORS, REWRITE_STATUS, REWRITE_THRESHOLDS,
 };
 use crate::record::{Kind, Shelf};
 use crate::rng::Rng;
@@ -17,13 +21,15 @@ use crate::shown::Place;
 
 pub fn offer_all(rng: &mut Rng, offer: Offer) {
     configurations(rng, offer);
-    for rewriter in [&STATUS, &THRESHOLDS] {
+    for rewriter in [&STATUS, &THRESHOLDS, &NAMES] {
         for _ in 0..8_000 {
             let inputs = rewriter.changed(rng);
             offer(writing_case(rng, rewriter.call, inputs));
         }
-        rewriter.every_value_of_every_byte(rng, offer);
         rewriter.every_output_length(rng, offer);
+    }
+    for rewriter in [&STATUS, &THRESHOLDS] {
+        rewriter.every_value_of_every_byte(rng, offer);
     }
     for _ in 0..120 {
         bytes_too_large(rng, offer);
@@ -32,7 +38,7 @@ pub fn offer_all(rng: &mut Rng, offer: Offer) {
 }
 
 /// A rewriter with the reader that hands back its records.
-struct Rewriter {
+pub struct Rewriter {
     call: &'static Call,
     reader: &'static Call,
     accepted_page: fn(&mut Rng, &Shelf) -> Vec<Vec<u8>>,
@@ -56,6 +62,14 @@ static THRESHOLDS: Rewriter = Rewriter {
     entry_bytes: THRESHOLD_ENTRY_BYTES,
 };
 
+pub static NAMES: Rewriter = Rewriter {
+    call: &REWRITE_DESCRIPTORS,
+    reader: &READ_DESCRIPTORS,
+    accepted_page: accepted_descriptors,
+    record_bytes: NAMES_BYTES,
+    entry_bytes: NAME_BYTES,
+};
+
 /// Values of a configuration's byte: type codes, and numbers and letters at the limits.
 const TELLING: [u8; 15] = [
     0x00,
@@ -77,7 +91,7 @@ const TELLING: [u8; 15] = [
 
 impl Rewriter {
     /// A configuration, and a record that the reader hands back under it.
-    fn accepted(&self, rng: &mut Rng, shelf: &Shelf) -> [Vec<u8>; 2] {
+    pub fn accepted(&self, rng: &mut Rng, shelf: &Shelf) -> [Vec<u8>; 2] {
         let inputs = (self.accepted_page)(rng, shelf);
         let before = rng.bytes(self.record_bytes);
         let answer = self.reader.answer(&inputs, &before);

@@ -3,7 +3,8 @@
 use crate::cases::{self, element, group, groups, shelf_of, text};
 use crate::element::Code;
 use crate::limits::{equal_share, most_elements_of, MOST_TEXT, MOST_TYPES};
-use crate::record::{Element, Group, Kind, Shelf, Thresholds};
+use crate::names::{letters, name_of};
+use crate::record::{Element, Group, Kind, Name, Shelf, Thresholds};
 use crate::rng::Rng;
 
 const STEPS: [i64; 4] = [-1, 0, 1, 2];
@@ -23,13 +24,24 @@ pub fn shelf(rng: &mut Rng) -> Shelf {
     shelf_of(rng, groups)
 }
 
-/// One element of each type, and texts of two letters.
+/// One element of each type, texts of two letters and names of up to two.
 pub fn one_of_each(rng: &mut Rng) -> Shelf {
     let mut groups = Kind::ALL.map(|kind| group(rng, kind, 1)).to_vec();
     for group in &mut groups {
         group.text = text(rng, 2);
     }
-    shelf_of(rng, groups)
+    let mut shelf = shelf_of(rng, groups);
+    for group in &mut shelf.groups {
+        group.overall_name = short_name(rng);
+        group.names = vec![short_name(rng)];
+    }
+    shelf
+}
+
+fn short_name(rng: &mut Rng) -> Name {
+    let length = rng.range(0, 2);
+    let text = letters(rng, length);
+    name_of(rng, &text)
 }
 
 /// A few elements of each type, in any order, some types twice and some of those without elements.
@@ -65,7 +77,7 @@ pub fn at_limits(rng: &mut Rng, kind: Kind) -> Shelf {
     for place in 0..most_elements_of(1) {
         let limit = LIMITS[place % LIMITS.len()];
         let step = STEPS[place / LIMITS.len() % STEPS.len()];
-        full.elements.push(element_at_limit(rng, kind, limit, step));
+        full.add(element_at_limit(rng, kind, limit, step));
     }
     shelf_of(rng, vec![full])
 }
@@ -115,7 +127,7 @@ fn type_of_chosen_codes(rng: &mut Rng) -> Group {
     let mut made = group(rng, kind, 0);
     for _ in 0..rng.range(1, 5) {
         let code = rng.pick(&chosen);
-        made.elements.push(element_of_code(rng, kind, code));
+        made.add(element_of_code(rng, kind, code));
     }
     made
 }

@@ -190,7 +190,7 @@ fn every_mix_of_zeros(rng: &mut Rng, pair: Pair, offer: Offer) {
             pair.put(&mut thresholds, stored);
             *one.thresholds_mut() = Thresholds::from_bytes(thresholds);
             let mut group = group(rng, pair.kind, 0);
-            group.elements.push(one);
+            group.add(one);
             let shelf = shelf_of(rng, vec![group]);
             let mut elements = [[0; 4]; 2];
             pair.put(&mut elements[0], overall);
@@ -280,7 +280,7 @@ fn mix_in_one(
         } else {
             keeper(rng, pair.kind, mix.overall)
         };
-        shelf.groups[1].elements.push(element);
+        shelf.groups[1].add(element);
         individual.push(own);
     }
     let before = shelf.groups[0].elements.len();

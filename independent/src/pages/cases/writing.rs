@@ -3,11 +3,18 @@
 use super::case::{every_output_length, roomy_case, writing_case, Offer};
 use super::shapes::{at_limits, one_of_each, shelf};
 use crate::cases::malformed_block;
-use crate::pages::calls::{Call, WRITE_CONFIGURATION, WRITE_STATUS, WRITE_THRESHOLDS};
+use crate::pages::calls::{
+    Call, WRITE_CONFIGURATION, WRITE_DESCRIPTORS, WRITE_STATUS, WRITE_THRESHOLDS,
+};
 use crate::record::Kind;
 use crate::rng::Rng;
 
-static WRITERS: [&Call; 3] = [&WRITE_CONFIGURATION, &WRITE_STATUS, &WRITE_THRESHOLDS];
+static WRITERS: [&Call; 4] = [
+    &WRITE_CONFIGURATION,
+    &WRITE_STATUS,
+    &WRITE_THRESHOLDS,
+    &WRITE_DESCRIPTORS,
+];
 
 pub fn offer_all(rng: &mut Rng, offer: Offer) {
     readings_at_limits(rng, offer);

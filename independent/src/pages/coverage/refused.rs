@@ -1,15 +1,18 @@
 //! How often a page was refused for each wrong length and for each byte that can offend.
 
-use super::tally::{place_name, Table, Tally};
+use super::tally::{place_name, sort_name, Table, Tally};
 use crate::limits::{
-    configuration_page_bytes, element_page_bytes, HIGHEST_CODE, MOST_OF_TYPE, PAGE_TYPES_AT,
+    configuration_page_bytes, descriptor_page_bytes, element_page_bytes, DESCRIPTOR_HEAD_BYTES,
+    HIGHEST_CODE, MOST_NAME, MOST_OF_TYPE, PAGE_TYPES_AT,
 };
 use crate::pages::calls::{
-    Answer, Call, APPLY_CONTROL, READ_CONFIGURATION, READ_STATUS, READ_THRESHOLDS,
+    Answer, Call, APPLY_CONTROL, READ_CONFIGURATION, READ_DESCRIPTORS, READ_STATUS, READ_THRESHOLDS,
 };
 use crate::pages::cases::case::Case;
+use crate::pages::descriptors::DescriptorPage;
 use crate::pages::{configuration, control, status, threshold_out, thresholds, ElementPage};
 use crate::record::{self, Configuration};
+use std::iter::zip;
 
 const OTHER_THAN_SAID: Table = Table {
     title: "pages refused with 4, as long as the types need 0, of another length too 1",
@@ -19,6 +22,7 @@ const OTHER_THAN_SAID: Table = Table {
         ("read_thresholds", &[0, 1]),
         ("apply_control", &[0, 1]),
         ("apply_thresholds", &[0, 1]),
+        ("read_descriptors", &[0, 1]),
     ],
 };
 
@@ -33,6 +37,16 @@ const OTHER_THAN_NEEDED: Table = Table {
     ],
 };
 
+const DESCRIPTOR_ENDS: Table = Table {
+    title: "descriptor pages refused with 12, shorter than 8 bytes 0, with bytes left over 1, or at the first \
+            descriptor that goes beyond the end, in its head 2, its text 3, a text of FFFFh bytes 4",
+    possible: &[
+        ("page", &[0, 1]),
+        ("overall", &[2, 3, 4]),
+        ("individual", &[2, 3, 4]),
+    ],
+};
+
 /// A Threshold Out page has but one byte that can offend.
 const OFFENDING: Table = Table {
     title: "pages refused with 6, with one offending byte, with more",
@@ -42,6 +56,7 @@ const OFFENDING: Table = Table {
         ("read_thresholds", &[1, 2]),
         ("apply_control", &[1, 2]),
         ("apply_thresholds", &[1]),
+        ("read_descriptors", &[1, 2]),
     ],
 };
 
@@ -100,6 +115,22 @@ const CONFIGURATION: Table = Table {
     ],
 };
 
+const DESCRIPTORS: Table = Table {
+    title: "descriptor pages by their first offending byte: of the page; of a descriptor its first zero 0, its \
+            second 1, its length with a lower byte too large 2, an upper byte 3, both 4, or the first 5, another \
+            6 or the last 7 letter",
+    possible: &[
+        ("page", &[1]),
+        ("overall", &[0, 1, 2, 3, 4, 5, 6, 7]),
+        ("individual", &[0, 1, 2, 3, 4, 5, 6, 7]),
+    ],
+};
+
+const DESCRIPTOR_PLACES: Table = Table {
+    title: "descriptor pages by the first offending descriptor, the first 0, another 1, the last 2, the only 3",
+    possible: &[("descriptor", &[0, 1, 2, 3])],
+};
+
 #[derive(Default)]
 pub struct Refused {
     other_than_said: Tally,
@@ -110,6 +141,9 @@ pub struct Refused {
     thresholds: Tally,
     control: Tally,
     configuration: Tally,
+    descriptor_ends: Tally,
+    descriptors: Tally,
+    descriptor_places: Tally,
 }
 
 impl Refused {
@@ -118,8 +152,13 @@ impl Refused {
         let page = case.inputs.last().expect("a page");
         match answer.number {
             4 => {
-                let either = u8::from(needed(case, page) != Some(page.len()));
+                let either = u8::from(!is_needed(case, page));
                 self.other_than_said.count(case.call.name, either);
+            }
+            12 if case.call.letter == READ_DESCRIPTORS.letter => {
+                let end = wrong_end(&configuration_of(case), page);
+                let (part, number) = end.expect("an end elsewhere");
+                self.descriptor_ends.count(part, number);
             }
             12 => {
                 let number = match needed(case, page) {
@@ -144,6 +183,9 @@ impl Refused {
             (&self.thresholds, &THRESHOLDS),
             (&self.control, &CONTROL),
             (&self.configuration, &CONFIGURATION),
+            (&self.descriptor_ends, &DESCRIPTOR_ENDS),
+            (&self.descriptors, &DESCRIPTORS),
+            (&self.descriptor_places, &DESCRIPTOR_PLACES),
         ];
         let mut enough = true;
         for (tally, table) in tallies {
@@ -172,8 +214,70 @@ impl Refused {
         } else if is(&APPLY_CONTROL) {
             let (part, at) = part_of_elements(case, first);
             self.control.count(part, at);
+        } else if is(&READ_DESCRIPTORS) {
+            self.count_descriptor(&configuration_of(case), page, first);
         }
     }
+}
+
+impl Refused {
+    fn count_descriptor(&mut self, configuration: &Configuration, page: &[u8], first: usize) {
+        let page = DescriptorPage::read(configuration, page).expect("a length that is right");
+        let places = configuration.places();
+        let last = places.len() - 1;
+        let descriptors = zip(&page.descriptors, &places).enumerate();
+        let before = descriptors.filter(|(_, (descriptor, _))| descriptor.at <= first);
+        let (which, descriptor, place) = match before.last() {
+            Some((which, (descriptor, place))) => (which, descriptor, *place),
+            None => {
+                self.descriptors.count("page", first as u8);
+                return;
+            }
+        };
+        let [_, _, upper, lower] = descriptor.head;
+        let letters = descriptor.text.len();
+        let number = match first - descriptor.at {
+            0 => 0,
+            1 => 1,
+            2 => match (upper, usize::from(lower) > MOST_NAME) {
+                (0, _) => 2,
+                (_, false) => 3,
+                (_, true) => 4,
+            },
+            4 => 5,
+            at if at < DESCRIPTOR_HEAD_BYTES + letters - 1 => 6,
+            _ => 7,
+        };
+        self.descriptors.count(sort_name(place), number);
+        let number = match which {
+            _ if last == 0 => 3,
+            0 => 0,
+            _ if which == last => 2,
+            _ => 1,
+        };
+        self.descriptor_places.count("descriptor", number);
+    }
+}
+
+/// How a page ends elsewhere than its descriptors do, if it does.
+fn wrong_end(configuration: &Configuration, page: &[u8]) -> Option<(&'static str, u8)> {
+    let mut at = descriptor_page_bytes(0, 0);
+    if page.len() < at {
+        return Some(("page", 0));
+    }
+    for place in configuration.places() {
+        let text_at = at + DESCRIPTOR_HEAD_BYTES;
+        let declared = match page.get(at..text_at) {
+            Some(head) => u16::from_be_bytes([head[2], head[3]]),
+            None => return Some((sort_name(place), 2)),
+        };
+        at = text_at + usize::from(declared);
+        if at > page.len() {
+            let number = if declared == 0xFFFF { 4 } else { 3 };
+            return Some((sort_name(place), number));
+        }
+    }
+    (at < page.len()).then_some(("page", 1))
 }
 
 /// All of a page that is refused for them.
@@ -183,6 +287,10 @@ fn offences(case: &Case, page: &[u8]) -> Vec<usize> {
         return configuration::offences(page).collect();
     }
     let configuration = configuration_of(case);
+    if is(&READ_DESCRIPTORS) {
+        let page = DescriptorPage::read(&configuration, page).expect("a length that is right");
+        return page.offences();
+    }
     let page = ElementPage::read(page[0], &configuration, page).expect("a header that is right");
     if is(&READ_STATUS) {
         status::offences(&configuration, &page).collect()
@@ -195,6 +303,15 @@ fn offences(case: &Case, page: &[u8]) -> Vec<usize> {
     }
 }
 
+fn is_needed(case: &Case, page: &[u8]) -> bool {
+    if case.call.letter == READ_DESCRIPTORS.letter {
+        wrong_end(&configuration_of(case), page).is_none()
+    } else {
+        needed(case, page) == Some(page.len())
+    }
+}
+
+/// The length of any page but 07h.
 fn needed(case: &Case, page: &[u8]) -> Option<usize> {
     if case.call.letter == READ_CONFIGURATION.letter {
         configuration::needed(page)

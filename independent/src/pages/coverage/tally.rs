@@ -45,6 +45,14 @@ pub fn place_name(place: Place) -> &'static str {
     }
 }
 
+/// Whatever the type.
+pub fn sort_name(place: Place) -> &'static str {
+    match place {
+        Place::Overall => "overall",
+        Place::Individual(_) => "individual",
+    }
+}
+
 pub fn kind_name(kind: Kind) -> &'static str {
     match kind {
         Kind::Cooling => "cooling",

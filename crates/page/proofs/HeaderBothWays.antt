@@ -51,7 +51,7 @@ head-again c p code own m f lp lm g hc hp o =
     ∙ ap₂ (λ (x y : List ℕ). getD p 0 0 ∷ getD p 1 0 ∷ (x ++ y)) l q
     ∙ sym t1
 
--- a page that starts with the header of its own length has the frame, and the generation code
+-- a page that starts with the header of its own length has the frame
 module _ (c rest : List ℕ) (code own m : ℕ) (e : length (headOf c code own m ++ rest) ≡ m) where
   pub frame-written : 4 ≤ m → m < 65540 → framed (headOf c code own m ++ rest) code ≡ Accepted
   unfolding lengthSaid

@@ -99,7 +99,9 @@ static inline const char *ses_meaning(uint8_t number)
 /* What a status element shows, field by field. An entry has four bytes that all types have and twelve that
  * its type lays out: the fields of bytes 1 to 3 of the element in page order, then zeros. Flags are 0 or 1; a
  * number of two bytes has its high byte first. An overall element shows its code alone, all else is zero.
- * Written again, a byte `none` that is not zero is a field set where the type shows none (6). */
+ * For a fan that is not ON a shelf shows speed code 0, whatever SPEED it stores; that stays, and shows again
+ * once the fan is ON. Written again, a byte `none` that is not zero is a field set where the type shows none
+ * (6). */
 struct ses_cooling {
     uint8_t ident, speed[2], fail, rqsted_on, off, speed_code, none[5];
 };

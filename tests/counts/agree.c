@@ -442,6 +442,18 @@ static void make_odd_configuration_page(void)
     put_page_length();
 }
 
+/* Fans whose ON, OFF and speed code do not go together: no shelf shows them, and they are read all the same. */
+static void make_odd_fans(void)
+{
+    uint8_t *slot = start.page + 8;
+    for (unsigned t = 0; t < good[40]; t++, slot += 4)
+        for (unsigned i = 0; i < good[45 + 36 * t]; i++) {
+            slot += 4;
+            if (good[44 + 36 * t] == COOLING)
+                slot[3] = (uint8_t)(below(8) << 4 | below(8));
+        }
+}
+
 /* Spoils a byte of a record of this many bytes in use, its head now and then. Hands back which. */
 static size_t spoil_record(void *record, size_t length)
 {
@@ -588,6 +600,8 @@ static void compare_status(void)
     choose_out_length();
     BOTH(WRITE_STATUS, write_status, SHELF, OUT);
     make_page(ses_write_status);
+    if (one_in(4))
+        make_odd_fans();
     struct ses_status record = start.status;
     uint32_t offset;
     ses_read_status(good, SES_CONFIGURATION_LENGTH, start.page, page_length, &record, &offset);

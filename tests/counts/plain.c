@@ -368,14 +368,15 @@ static uint32_t code_of(bool critical, bool warning)
     return critical ? CRITICAL : warning ? NONCRITICAL : OK;
 }
 
-/* What a status element shows beside its settings. */
-
-static uint32_t fan_shows(uint32_t settings, unsigned reading)
+/* A fan that is not ON shows its settings without SPEED. */
+static uint32_t fan_status(uint32_t settings, unsigned reading)
 {
     if ((settings & FAN_ON) == 0)
-        return (uint32_t)OK << 24 | reading << 8 | FAN_OFF;
-    return code_of(reading == 0, false) << 24 | reading << 8;
+        return (settings & ~SPEED) | (uint32_t)OK << 24 | reading << 8 | FAN_OFF;
+    return settings | code_of(reading == 0, false) << 24 | reading << 8;
 }
+
+/* What the status element of a sensor shows beside its settings. */
 
 static uint32_t temperature_shows(const uint8_t *limit, unsigned reading)
 {
@@ -408,7 +409,7 @@ static uint32_t status_of(uint8_t type, const uint8_t *element)
     uint32_t settings = number4(element);
     unsigned reading = number2(element + READING);
     switch (type) {
-    case COOLING: return settings | fan_shows(settings, reading);
+    case COOLING: return fan_status(settings, reading);
     case TEMPERATURE: return settings | temperature_shows(element + THRESHOLDS, reading);
     default: return settings | voltage_shows(element + THRESHOLDS, reading, (int32_t)number2(element + NOMINAL));
     }

@@ -62,12 +62,7 @@ static void hold_pages(void)
     hold_output("ON with reading 0", &out, status_with_a_fan_at_0, 24);
 }
 
-/* The settings stored and wanted, and the page with its SELECTs. */
-static const struct wish {
-    const char *what;
-    uint8_t stored[12], wanted[12], page[24];
-    uint32_t selects;
-} wishes[] = {
+static const struct wish wishes[] = {
     {"SPEED 5 for all",
      {SPEED_3, SPEED_3, SPEED_3}, {SPEED_5, SPEED_5, SPEED_5},
      {HEADER, 0x80, 0x00, 0x00, 0x25, NOTHING, NOTHING, NOTHING}, 1},
@@ -88,8 +83,7 @@ static const struct wish {
      {HEADER, NOTHING, NOTHING, NOTHING, NOTHING}, 0},
 };
 
-/* A with other settings. */
-static void put_fans(uint8_t shelf[A_LENGTH], const uint8_t settings[12])
+void put_fans(uint8_t shelf[A_LENGTH], const uint8_t settings[12])
 {
     memcpy(shelf, shelf_a, A_LENGTH);
     memcpy(shelf + 332, settings, 4);
@@ -110,20 +104,23 @@ static void hold_applied(const char *what, const uint8_t stored[12], const uint8
     hold_bytes(what, shelf, brought, A_LENGTH);
 }
 
+void hold_wish(const struct wish *w)
+{
+    uint8_t shelf[A_LENGTH];
+    struct output out;
+    put_fans(shelf, w->stored);
+    empty(&out);
+    hold(w->what,
+         ses_build_control(shelf, A_LENGTH, w->wanted, 12, out.bytes, sizeof out.bytes, &out.written, &out.selects), 0);
+    hold(w->what, out.selects, w->selects);
+    hold_output(w->what, &out, w->page, 24);
+    hold_applied(w->what, w->stored, w->page, w->wanted);
+}
+
 static void hold_wishes(void)
 {
-    for (size_t i = 0; i < sizeof wishes / sizeof *wishes; i++) {
-        const struct wish *w = &wishes[i];
-        uint8_t shelf[A_LENGTH];
-        struct output out;
-        put_fans(shelf, w->stored);
-        empty(&out);
-        hold(w->what,
-             ses_build_control(shelf, A_LENGTH, w->wanted, 12, out.bytes, sizeof out.bytes, &out.written, &out.selects), 0);
-        hold(w->what, out.selects, w->selects);
-        hold_output(w->what, &out, w->page, 24);
-        hold_applied(w->what, w->stored, w->page, w->wanted);
-    }
+    for (size_t i = 0; i < sizeof wishes / sizeof *wishes; i++)
+        hold_wish(&wishes[i]);
     /* The other way to SPEED 5 for the first two: the overall element for them, the last fan by itself, two SELECTs as well. */
     static const uint8_t other[24] = {HEADER, 0x80, 0x00, 0x00, 0x25, NOTHING, NOTHING, 0x80, 0x00, 0x00, 0x23};
     hold_applied("SPEED 5 for the first two, the other way", wishes[2].stored, other, wishes[2].wanted);

@@ -51,7 +51,8 @@ struct row {
 };
 
 /* Byte 1: bit 7 IDENT, bits 2 to 0 the upper part of the speed; byte 2 its lower part. Byte 3: bit 6 FAIL, 5 RQSTED ON, 4 OFF,
- * bits 2 to 0 the speed code. The speed is 1,330 = 0532h. Here too the fields that all types have. */
+ * bits 2 to 0 the speed code. The speed is 1,330 = 0532h. Here too the fields that all types have; and what no shelf shows, OFF with
+ * a speed code and ON without one. */
 static const struct row fans[] = {
     {{0x02, 0x00, 0x00, 0x00}, {.code = 2}},
     {{0x42, 0x00, 0x00, 0x00}, {.code = 2, .prdfail = 1}},
@@ -63,6 +64,8 @@ static const struct row fans[] = {
     {{0x08, 0x00, 0x00, 0x20}, {.code = 8, .of.cooling.rqsted_on = 1}},
     {{0x00, 0x00, 0x00, 0x10}, {.code = 0, .of.cooling.off = 1}},
     {{0x01, 0x00, 0x00, 0x03}, {.code = 1, .of.cooling.speed_code = 3}},
+    {{0x01, 0x00, 0x78, 0x17}, {.code = 1, .of.cooling = {.speed = {0x00, 0x78}, .off = 1, .speed_code = 7}}},
+    {{0x01, 0x00, 0x78, 0x20}, {.code = 1, .of.cooling = {.speed = {0x00, 0x78}, .rqsted_on = 1}}},
     {{0x71, 0x87, 0xFF, 0x77}, {.code = 1, .prdfail = 1, .disabled = 1, .swap = 1, .of.cooling = {
         .ident = 1, .speed = {0x07, 0xFF}, .fail = 1, .rqsted_on = 1, .off = 1, .speed_code = 7}}},
 };
@@ -109,17 +112,17 @@ static const struct row currents[] = {
         .ident = 1, .fail = 1, .warn_over = 1, .crit_over = 1, .current = {0xFF, 0xFE}}}},
 };
 
-/* 64 bytes: generation 7, four types, no identification; 10 fans, 8 temperature, 8 voltage and 6 current sensors, no texts. */
+/* 64 bytes: generation 7, four types, no identification; 12 fans, 8 temperature, 8 voltage and 6 current sensors, no texts. */
 static const uint8_t configuration_page[64] = {
     0x01, 0x00, 0x00, 0x3C, 0x00, 0x00, 0x00, 0x07, 0x11, 0x00, 0x04, 0x24,
-    [48] = COOLING, 10, 0, 0, TEMPERATURE, 8, 0, 0, VOLTAGE, 8, 0, 0, CURRENT, 6, 0, 0,
+    [48] = COOLING, 12, 0, 0, TEMPERATURE, 8, 0, 0, VOLTAGE, 8, 0, 0, CURRENT, 6, 0, 0,
 };
 
-/* Four types and 32 elements make 36 entries, and a page of 8 + 4 x 36 = 152 bytes. */
-enum { ENTRIES = 36, PAGE = 152 };
+/* Four types and 34 elements make 38 entries, and a page of 8 + 4 x 38 = 160 bytes. */
+enum { ENTRIES = 38, PAGE = 160 };
 
 static uint8_t configuration[SES_CONFIGURATION_LENGTH];
-static uint8_t page[PAGE] = {0x02, 0x00, 0x00, 0x94, 0x00, 0x00, 0x00, 0x07};
+static uint8_t page[PAGE] = {0x02, 0x00, 0x00, 0x9C, 0x00, 0x00, 0x00, 0x07};
 static struct ses_status shown;
 
 /* The elements of a type, its overall element first, from an entry on. Answers the next entry. */

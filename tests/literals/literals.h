@@ -16,6 +16,9 @@ enum { A_LENGTH = 508, SENSOR_LENGTH = 412 };
  * "Fan rear left", "Fan rear middle" and "Fan rear right". */
 extern const uint8_t shelf_a[A_LENGTH];
 
+/* A with other settings. */
+void put_fans(uint8_t shelf[A_LENGTH], const uint8_t settings[12]);
+
 /* A shelf with one sensor, of generation 7 and without a text. Its two names are of bytes that are not printable. */
 void put_sensor(uint8_t shelf[SENSOR_LENGTH], uint8_t type, const uint8_t thresholds[4], uint16_t reading, uint16_t nominal);
 
@@ -46,7 +49,18 @@ void empty(struct output *out);
 void hold_output(const char *what, const struct output *out, const uint8_t *page, size_t length);
 void hold_no_output(const char *what, const struct output *out);
 
+/* What is wanted of A with these settings, and the page built for it with its SELECTs. */
+struct wish {
+    const char *what;
+    uint8_t stored[12], wanted[12], page[24];
+    uint32_t selects;
+};
+
+/* That page is built, and applied it brings A to what is wanted. */
+void hold_wish(const struct wish *w);
+
 void hold_fans_a(void);
+void hold_stopped(void);
 void hold_names(void);
 void hold_refusals(void);
 void hold_meanings(const char *file);

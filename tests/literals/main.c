@@ -77,6 +77,7 @@ int main(int count, char **words)
         return 1;
     }
     hold_fans_a();
+    hold_stopped();
     hold_names();
     hold_refusals();
     hold_meanings(words[1]);

@@ -10,11 +10,12 @@ use lib.ListN.{length, getD}
 use borrow.Author.Tests.{leb-true}
 use Rattle.bits.specs.Numbers.{big, bytes}
 use Rattle.bits.specs.Places.{twoAt, fourAt}
+use Rattle.bits.proofs.Logic.{by-case}
 use Rattle.bits.proofs.Halves.{num-small}
 use Rattle.element.specs.declared.types.Kind.{Kind}
 use Rattle.element.specs.declared.types.Kind.the-variants.{Cooling, Temperature, Voltage, Current}
 use Rattle.element.specs.Verdict.{unlimited, above, below, over, under}
-use Rattle.element.specs.Types.{fanLayout, isOn, fanStatus, sensorLayout, temperatureStatus, voltageStatus, currentStatus, rulesOf, layoutOf, readingAllowed, nominalAllowed, had, ordered}
+use Rattle.element.specs.Types.{fanLayout, isOn, speedShown, fanStatus, sensorLayout, temperatureStatus, voltageStatus, currentStatus, rulesOf, layoutOf, readingAllowed, nominalAllowed, had, ordered}
 use Rattle.element.specs.Settings.{settingsFormed, fieldsFormed}
 use Rattle.element.proofs.SettingsBothWays.{Sound, sound-tested}
 use Rattle.element.proofs.StatusBothWays.{lays-tested}
@@ -35,7 +36,8 @@ facts Cooling = record {
   shows = λ s v r l p a.
       let h = leb-true r 2047 a in
       let n : s .speed ≤ 7 = rw (← (p .3)) (and-le-r (s .speed) 7) in
-      (omega arith, (omega arith, (omega arith, (omega arith, (omega arith, (omega arith, (n, tt)))))));
+      let m : speedShown s ≤ 7 = by-case (isOn s) (λ t. rw t n) (λ t. rw t (omega arith)) in
+      (omega arith, (omega arith, (omega arith, (omega arith, (omega arith, (omega arith, (m, tt)))))));
 }
 facts Temperature = record {
   numbered = refl;

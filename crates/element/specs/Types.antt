@@ -35,10 +35,14 @@ fanStatus = record {
   fourth = reserved 1 ∷ flag ∷ flag ∷ flag ∷ reserved 1 ∷ field 3 ∷ [];
 }
 
--- OFF is set exactly if ON is 0; the speed code is the stored SPEED
+-- the speed code is the stored SPEED if ON, else 0
+abbrev pub speedShown : Settings → ℕ
+speedShown s = pick (isOn s) (s .speed) 0
+
+-- OFF is set exactly if ON is 0
 abbrev pub fanFields : Settings → Verdict → ℕ → List ℕ
 fanFields s v r =
-    bitOf 7 (s .flags1) ∷ r / 256 ∷ r % 256 ∷ bitOf 6 (s .flags3) ∷ bitOf 5 (s .flags3) ∷ (1 - bitOf 5 (s .flags3)) ∷ s .speed ∷ []
+    bitOf 7 (s .flags1) ∷ r / 256 ∷ r % 256 ∷ bitOf 6 (s .flags3) ∷ bitOf 5 (s .flags3) ∷ (1 - bitOf 5 (s .flags3)) ∷ speedShown s ∷ []
 
 abbrev pub cooling : Rules
 cooling = record {

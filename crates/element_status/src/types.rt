@@ -11,7 +11,7 @@ ghost use Rattle.bits.specs.Bits.{num};
 ghost use Rattle.element.specs.Settings.{settingsOf, fieldsFormed};
 ghost use Rattle.element.specs.declared.types.Kind.the-variants.{Cooling, Temperature, Voltage, Current};
 ghost use Rattle.element.specs.Verdict.{fanVerdict, temperatureVerdict, voltageVerdict, currentVerdict};
-ghost use Rattle.element.specs.Types.{isOn, fanStatus, fanFields, temperatureStatus, temperatureFields, voltageStatus, voltageFields, currentStatus, currentFields};
+ghost use Rattle.element.specs.Types.{isOn, speedShown, fanStatus, fanFields, temperatureStatus, temperatureFields, voltageStatus, voltageFields, currentStatus, currentFields};
 ghost use Rattle.element.specs.Status.{firstByte, entryOf, statusBytes, shownBy, statusWith};
 ghost use Rattle.element_status.specs.Words.{numberOf};
 
@@ -108,8 +108,19 @@ fn fan_bytes(set: Settings, v: Verdict, reading: u16) -> [u8; 4]
         first_byte(set, v.code),
         set.flags1 / 128 % 2 * 128 + (reading / 256 % 8) as u8,
         (reading % 256) as u8,
-        set.flags3 / 64 % 2 * 64 + on * 32 + (1 - on) * 16 + set.speed % 8,
+        set.flags3 / 64 % 2 * 64 + on * 32 + (1 - on) * 16 + speed_shown(set) % 8,
     ]
+}
+
+// A stopped fan shows none, whatever speed is stored for when it runs again.
+fn speed_shown(set: Settings) -> u8
+    ensures { λ r. ⌜ r ≡ speedShown set ⌝ }
+{
+    if set.flags3 / 32 % 2 == 1 {
+        set.speed
+    } else {
+        0
+    }
 }
 
 fn temperature(stored: [u8; 4], reading: u16, t: [u8; 4]) -> [u8; 4]

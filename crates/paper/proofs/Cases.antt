@@ -1,5 +1,5 @@
--- Every case of the table holds, and so do those of the errors: antt computes what the definitions give, and it is what document 01 tells.
--- Assumes nothing.
+-- Every case of the table holds, and so do those of the errors: antt computes what the definitions give, and it is what document 01 and the
+-- requests tell. Assumes nothing.
 use mathlib.Core.Path.{_≡_, refl, sym, ap, subst, _∙_}
 use mathlib.Core.Bool.{Bool, true, false, _&&_}
 use mathlib.Core.List.{List, [], _∷_, _++_}
@@ -53,7 +53,7 @@ use Rattle.build_page.specs.Page.{searchIn, overallIn, rowUnder, rowFor, select
 use Rattle.build_page.proofs.FirstPage.{made-selects}
 use Rattle.build_page.proofs.PromiseKept.{none-reaches, page-promised}
 use Rattle.build_page.proofs.PromiseLaws.{wish-taken, selects-needed}
-use Rattle.paper.specs.Table.{Case, shows, judges, tells, builds, reaches, refuses, answers, describes, finds, reads, limits, none, typesA, frontA, shelfA, OfA, middleNamed, OfNamed, HasStatus, Gets, ReachedBy, RefusedBy, Answers, HasNames, Finds, ReadsNames, Holds, AllHold, table}
+use Rattle.paper.specs.Table.{Case, shows, judges, tells, builds, reaches, refuses, answers, describes, finds, reads, limits, none, typesA, frontA, shelfA, OfA, middleNamed, OfNamed, HasStatus, Gets, ReachedBy, RefusedBy, Answers, HasNames, Finds, ReadsNames, Holds, AllHold, stoppedFans, table}
 use Rattle.paper.specs.Errors.{errors}
 use Rattle.paper.proofs.NamesOfA.{readRest, read-so, middleName, standing, described-so, foundSo, found-so}
 
@@ -62,7 +62,7 @@ abbrev allBytes : List ℕ → Bool
 allBytes [] = true
 allBytes (b ∷ bs) = ltb b 256 && allBytes bs
 
-are-bytes : (l : List ℕ) → allBytes l ≡ true → Bytes l
+pub are-bytes : (l : List ℕ) → allBytes l ≡ true → Bytes l
 are-bytes [] t = tt
 are-bytes (b ∷ bs) t = (ltb-true b 256 (and-left _ _ t), are-bytes bs (and-right (ltb b 256) _ t))
 
@@ -324,6 +324,15 @@ all-hold (c ∷ cs) a = (holds c (λ i m. first i m (a i m)), all-hold cs (λ i 
     rest : (i m : List ℕ) → Agree i m (c ∷ cs) → Agree i m cs
     rest i m (e also l) = l
 
+-- the cases of stopped fans by themselves, since StatusAlone draws on them
+computed-stopped : (i m : List ℕ) → Agree i m stoppedFans
+unfolding settingsOf settingsBytes controlOf reservedIn offending chosen settled verdictOf entryBy shownBy statusBytes kindOf layoutOf
+    readingAllowed nominalAllowed settingsFormed had ordered before elementsOf typeOf kindAt settingsAt thresholdsAt readingAt nominalAt
+    spareAt spareClear elementFormed elementsFormed slotsOf startOf slotType isOverall slotAt header shownAt verdictAt codeAt worst shownIn
+    pageBits slotBytes pageWith statusPage firstOf placesOf slotOffending settingsAfter broughtTo inReach alike requestBytes own brings one
+    tried tries cost better best overallIn rowUnder reachable bytesAt given told
+computed-stopped i m = refl also refl also refl also refl also refl also refl also refl also refl also end
+
 computed : (i m : List ℕ) → Agree i m table
 unfolding settingsOf settingsBytes controlOf reservedIn offending chosen settled over under verdictOf entryBy shownBy statusBytes kindOf
     layoutOf readingAllowed nominalAllowed settingsFormed had ordered before elementsOf typeOf kindAt settingsAt thresholdsAt readingAt
@@ -336,7 +345,7 @@ computed i m =
     refl also refl also refl also refl also refl also refl also refl also refl also refl also refl also refl also refl
     also refl also refl also refl also refl also refl also refl also refl also refl also refl also refl also refl also refl
     also refl also refl also refl also refl also refl also refl also refl also refl also refl also refl also refl
-    also refl also refl also refl also refl also refl also refl also refl also end
+    also refl also refl also refl also refl also refl also refl also refl also computed-stopped i m
 
 -- apart from the table, so that antt holds less at a time
 computed-errors : (i m : List ℕ) → Agree i m errors
@@ -349,6 +358,9 @@ computed-errors i m = refl also refl also refl also end
 
 pub proved : AllHold table
 proved = all-hold table computed
+
+pub stopped-proved : AllHold stoppedFans
+stopped-proved = all-hold stoppedFans computed-stopped
 
 pub errors-proved : AllHold errors
 errors-proved = all-hold errors computed-errors

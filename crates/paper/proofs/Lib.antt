@@ -1,2 +1,3 @@
 pub mod NamesOfA
 pub mod Cases
+pub mod StatusAlone

@@ -1,4 +1,4 @@
--- The cases that document 01 marks M, and those of requests One and Two. Assumes nothing.
+-- The cases that document 01 marks M, and those of requests One, Two and Three. Assumes nothing.
 use mathlib.Core.Path.{_≡_}
 use mathlib.Core.Bool.{true}
 use mathlib.Core.List.{List, [], _∷_, _++_}
@@ -179,10 +179,10 @@ abbrev pub control : List ℕ → List ℕ → List ℕ → List ℕ → List �
 control o x y z = heading 0x14 0x07 ++ o ++ x ++ y ++ z
 
 -- elements of a page: one that asks for SPEED 5, one that keeps a fan ON at its speed, one that asks for IDENT beside that, one without SELECT
-abbrev requests : List ℕ
+abbrev pub requests : List ℕ
 requests = 0x80 ∷ 0x00 ∷ 0x00 ∷ 0x25 ∷ []
 
-abbrev keeps : List ℕ
+abbrev pub keeps : List ℕ
 keeps = 0x80 ∷ 0x00 ∷ 0x00 ∷ 0x20 ∷ []
 
 abbrev pub identifies : List ℕ
@@ -190,6 +190,39 @@ identifies = 0x80 ∷ 0x80 ∷ 0x00 ∷ 0x20 ∷ []
 
 abbrev pub silent : List ℕ
 silent = 0x00 ∷ 0x00 ∷ 0x00 ∷ 0x00 ∷ []
+
+-- request Three: the fans of A with the middle one stopped, and this SPEED stored of it
+abbrev pub middleOff : ℕ → List ℕ
+middleOff n = fan 120 ++ fanAt (0x00 ∷ 0x00 ∷ 0x00 ∷ n ∷ []) 120 ++ fan 120
+
+-- what is wanted there: the middle fan ON at SPEED 5
+abbrev pub middleOn : List ℕ
+middleOn = on 0x23 ++ on 0x25 ++ on 0x23
+
+-- the status page of such an A: the middle fan has code 1, its reading, OFF and nothing else
+abbrev pub stoppedPage : List ℕ
+stoppedPage =
+    (0x02 ∷ 0x00 ∷ 0x00 ∷ 0x14 ∷ 0x00 ∷ 0x00 ∷ 0x00 ∷ 0x07 ∷ [])
+    ++ (0x01 ∷ 0x00 ∷ 0x00 ∷ 0x00 ∷ [])
+    ++ (0x01 ∷ 0x00 ∷ 0x78 ∷ 0x23 ∷ [])
+    ++ (0x01 ∷ 0x00 ∷ 0x78 ∷ 0x10 ∷ [])
+    ++ (0x01 ∷ 0x00 ∷ 0x78 ∷ 0x23 ∷ [])
+
+abbrev pub stoppedFans : List Case
+stoppedFans =
+    -- SPEED 3 or 5 is stored, and the status page is the same
+    tells (middleOff 3) stoppedPage
+    ∷ tells (middleOff 5) stoppedPage
+    -- the builder goes on from the stored SPEED: 5 is asked for, or kept by speed code 0
+    ∷ builds (middleOff 3) middleOn (control silent silent requests silent) 1
+    ∷ builds (middleOff 5) middleOn (control silent silent keeps silent) 1
+    -- the middle fan is stopped, and its SPEED is what it was
+    ∷ builds fansA (on 0x23 ++ (0x00 ∷ 0x00 ∷ 0x00 ∷ 0x03 ∷ []) ++ on 0x23) (control silent silent (0x80 ∷ 0x00 ∷ 0x00 ∷ 0x00 ∷ []) silent) 1
+    -- none shows a speed: SPEED 7; IDENT, FAIL and SPEED 5; PRDFAIL, DISABLED, SWAP and SPEED 1, with the highest reading
+    ∷ shows Cooling (0x00 ∷ 0x00 ∷ 0x00 ∷ 0x07 ∷ []) 0 0 none (0x01 ∷ 0x00 ∷ 0x00 ∷ 0x10 ∷ [])
+    ∷ shows Cooling (0x00 ∷ 0x80 ∷ 0x00 ∷ 0x45 ∷ []) 0 0 none (0x01 ∷ 0x80 ∷ 0x00 ∷ 0x50 ∷ [])
+    ∷ shows Cooling (0x70 ∷ 0x00 ∷ 0x00 ∷ 0x01 ∷ []) 2047 0 none (0x71 ∷ 0x07 ∷ 0xff ∷ 0x10 ∷ [])
+    ∷ []
 
 -- "Fan rear left"
 abbrev rearLeft : List ℕ
@@ -284,4 +317,5 @@ table =
     ∷ reads (described 0x16 0x02 (0x20 ∷ 0x7e ∷ [])) 0 0
     ∷ reads (described 0x16 0x02 (0x1f ∷ 0x7e ∷ [])) 6 20
     ∷ reads (described 0x16 0x02 (0x20 ∷ 0x7f ∷ [])) 6 21
-    ∷ []
+    -- request Three
+    ∷ stoppedFans

@@ -6,3 +6,4 @@ pub mod ReadAndRewritten
 pub mod PageOrder
 pub mod WhereRefused
 pub mod BeforeRequestOne
+pub mod StoppedFans

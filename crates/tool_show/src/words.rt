@@ -1,6 +1,7 @@
 // The types by name, and one element in a line: its name, its code, its reading, the flags and limit bits that are set, and its thresholds.
 //
 // What an element shows is read off the entry of its status element, so no rule of showing stands here.
+use element::settings::Settings;
 use element::types::Kind;
 use names::name;
 use shelf::elements;
@@ -38,7 +39,7 @@ pub fn show(shelf: &[u8], kind: Kind, j: u16, at: u32)
     tool_print::labelled(b": code ", x[0] as u64);
     tool_print::text(b", ");
     match kind {
-        Kind::Cooling => say_fan(x),
+        Kind::Cooling => say_fan(x, Settings::of(kind, elements::settings_at(shelf, j))),
         Kind::Temperature => say_temperature(x, t),
         Kind::Voltage => say_voltage(x, nominal, t),
         Kind::Current => say_current(x, nominal, t),
@@ -46,13 +47,22 @@ pub fn show(shelf: &[u8], kind: Kind, j: u16, at: u32)
     tool_print::text(b"\n");
 }
 
-fn say_fan(x: [u8; element_status::ENTRY]) {
+fn say_fan(x: [u8; element_status::ENTRY], stored: Settings) {
     tool_print::number(number(x[5], x[6]) as u64 * 10);
     tool_print::text(b" rpm");
     tool_print::flag(x[8] == 1, b"ON");
     tool_print::flag(x[9] == 1, b"OFF");
-    tool_print::labelled(b", speed ", x[10] as u64);
+    say_speed(x[10], stored.speed);
     say_flags(x, x[7]);
+}
+
+// The speed code, and the stored SPEED where that is another.
+fn say_speed(shown: u8, stored: u8) {
+    tool_print::labelled(b", speed ", shown as u64);
+    if stored != shown {
+        tool_print::labelled(b" (stored ", stored as u64);
+        tool_print::text(b")");
+    }
 }
 
 fn say_temperature(x: [u8; element_status::ENTRY], t: [u8; 4]) {

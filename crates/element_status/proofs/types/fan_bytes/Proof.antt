@@ -6,7 +6,7 @@ use Rattle.element_status.proofs.types.fan_bytes.Statement.{statement}
 use Rattle.element_status.proofs.types.fan_bytes.Tie as tie
 
 returns : tie.Need-returns
-returns c = four (c .before .before .before .first-byte .ensures) (omega arith) (omega arith) (omega arith)
+returns c = four (c .before .before .before .first-byte .ensures) (omega arith) (omega arith) (omega (arith, c .speed-shown .ensures))
 
 pub fan-bytes-spec : {M : Type 1} → statement M
 fan-bytes-spec =
@@ -14,5 +14,5 @@ fan-bytes-spec =
     (tie.spec
     (λ c κs. search needs) (λ c. search needs) (λ c. search needs) (λ c. search needs)
     (λ c. search needs) (λ c. search needs) (λ c. search needs) (λ c. search needs) (λ c. search needs)
-    (λ c. search needs) (λ c. search needs) (λ c. search needs)
+    (λ c. search needs) (λ c. search needs) (λ c κs. search needs) (λ c. search needs)
     returns)

@@ -43,6 +43,7 @@ pub fn offer_all(rng: &mut Rng, offer: Offer) {
     element_flaws(rng, offer);
     block_flaws(rng, offer);
     open_changes(rng, offer);
+    fan_speeds(rng, offer);
 }
 
 fn well_formed_shelves(rng: &mut Rng, offer: Offer) {
@@ -527,6 +528,26 @@ fn sparse_element(target: &mut Target, rng: &mut Rng) {
     element.fill(0);
     for _ in 0..rng.range(0, 3) {
         element[rng.range(0, ELEMENT_BYTES - 1)] = rng.byte();
+    }
+}
+
+/// A fan that is ON or stopped, with a reading or without, has any SPEED but 0.
+fn fan_speeds(rng: &mut Rng, offer: Offer) {
+    for speed in 0..=HIGHEST_SPEED {
+        let intent = match speed {
+            0 => Intent::Malformed,
+            _ => Intent::WellFormed,
+        };
+        for (on, turning) in [(true, 0), (true, 1), (false, 0), (false, 1)] {
+            let mut shelf = one_type(rng, Kind::Cooling, 1);
+            if let Element::Cooling {
+                settings, reading, ..
+            } = &mut shelf.groups[0].elements[0]
+            {
+                (settings.on, settings.speed, *reading) = (on, speed, turning);
+            }
+            offer(&shelf.block(), intent);
+        }
     }
 }
 

@@ -68,7 +68,7 @@ static COOLING: [Field; 7] = [
     flag(3, 6, fail),
     flag(3, 5, |element| fan_settings(element).on.into()),
     flag(3, 4, |element| (!fan_settings(element).on).into()),
-    up_to(HIGHEST_SPEED, 3, 0, |element| fan_settings(element).speed),
+    up_to(HIGHEST_SPEED, 3, 0, speed_code),
 ];
 
 static TEMPERATURE: [Field; 7] = [
@@ -238,6 +238,16 @@ fn fan_settings(element: &Element) -> FanSettings {
             on: false,
             speed: 0,
         },
+    }
+}
+
+/// The stored SPEED shows while the fan is ON.
+fn speed_code(element: &Element) -> u8 {
+    let FanSettings { on, speed, .. } = fan_settings(element);
+    if on {
+        speed
+    } else {
+        0
     }
 }
 

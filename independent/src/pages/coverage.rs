@@ -1,5 +1,6 @@
 //! How often the calls compared brought up each thing that they can.
 
+mod fans;
 mod names;
 mod refused;
 mod tally;
@@ -12,9 +13,9 @@ use super::cases::case::Case;
 use super::status::Status;
 use super::{parts, ElementPage, Refusal, TypeElements};
 use crate::bits::{bit, flag};
-use crate::limits::STATUS_ENTRY_BYTES;
 use crate::record::{self, Configuration, Group, Shelf};
 use crate::shown::Place;
+use fans::{Entry, Fans};
 use names::Names;
 use refused::Refused;
 use std::iter::zip;
@@ -136,6 +137,7 @@ pub struct Coverage {
     outcomes: Tally,
     refused: Refused,
     names: Names,
+    fans: Fans,
     codes: Tally,
     read: Tally,
     rewritten: Tally,
@@ -158,25 +160,34 @@ impl Coverage {
         }
         self.names.count(case, answer);
         if call.letter == REWRITE_STATUS.letter && answer.number == Refusal::NotAllowed.number() {
-            self.count_fault(&inputs[0], &inputs[1]);
+            self.count_fault(&entries_of(&inputs[0], &inputs[1]), &inputs[1]);
         }
         if answer.number != 0 {
             return;
         }
         if call.letter == WRITE_STATUS.letter {
-            self.count_codes(&shelf_of(&inputs[0]));
+            let shelf = shelf_of(&inputs[0]);
+            self.count_codes(&shelf);
+            self.fans.count_written(&shelf);
         } else if call.letter == READ_STATUS.letter {
-            count_largest(&mut self.read, &inputs[0], answer.record());
+            let entries = entries_of(&inputs[0], answer.record());
+            count_largest(&mut self.read, &entries);
+            self.fans.count_read(&entries);
         } else if call.letter == REWRITE_STATUS.letter {
-            count_largest(&mut self.rewritten, &inputs[0], &inputs[1]);
+            let entries = entries_of(&inputs[0], &inputs[1]);
+            count_largest(&mut self.rewritten, &entries);
+            self.fans.count_rewritten(&entries);
         } else if call.letter == APPLY_CONTROL.letter {
-            let before = self.count_changed(call.name, lent, answer);
+            let (before, after) = self.count_changed(call.name, lent, answer);
             self.count_selects(&before, &inputs[0]);
+            self.fans.count_controlled(&before, &after);
         } else if call.letter == APPLY_THRESHOLDS.letter {
-            let before = self.count_changed(call.name, lent, answer);
+            let (before, _) = self.count_changed(call.name, lent, answer);
             self.count_sources(&before, &inputs[0]);
         } else if call.letter == BUILD_CONTROL.letter {
-            self.count_built(&shelf_of(&inputs[0]), answer);
+            let shelf = shelf_of(&inputs[0]);
+            self.count_built(&shelf, answer);
+            self.fans.count_wanted(&shelf, &inputs[1]);
         }
     }
 
@@ -206,6 +217,7 @@ impl Coverage {
         }
         enough &= self.refused.print();
         enough &= self.names.print();
+        enough &= self.fans.print();
         if !enough {
             println!("too few: at least {LEAST_OF_EACH} of each are wanted");
         }
@@ -219,8 +231,8 @@ impl Coverage {
     }
 
     /// Of a status record with a byte too large, if it is the only one.
-    fn count_fault(&mut self, configuration: &[u8], record: &[u8]) {
-        let bytes = bytes_of_entries(configuration, record);
+    fn count_fault(&mut self, entries: &[Entry], record: &[u8]) {
+        let bytes = bytes_of(entries);
         let mut faults = bytes.iter().filter(|byte| byte.value > byte.most);
         if let (Some(fault), None, [0 | 1, 0 | 1, ..]) = (faults.next(), faults.next(), record) {
             let name = place_name(fault.place);
@@ -232,20 +244,29 @@ impl Coverage {
         }
     }
 
-    /// Hands back the shelf as it was before.
-    fn count_changed(&mut self, call: &'static str, lent: &[u8], answer: &Answer) -> Shelf {
+    /// Hands back the shelf as it was before, and as it is after.
+    fn count_changed(
+        &mut self,
+        call: &'static str,
+        lent: &[u8],
+        answer: &Answer,
+    ) -> (Shelf, Shelf) {
         let (before, after) = (shelf_of(lent), shelf_of(answer.record()));
         let elements = zip(before.elements(), after.elements());
         let changed = elements.filter(|(before, after)| before != after).count();
         self.changed.count(call, changed.min(2) as u8);
-        before
+        (before, after)
     }
 
     fn count_selects(&mut self, shelf: &Shelf, page: &[u8]) {
         for (group, asked) in by_group(shelf, page) {
-            for individual in asked.individual {
+            for (element, individual) in zip(&group.elements, asked.individual) {
                 let number = flag(select(individual), 1) + flag(select(asked.overall), 0);
                 self.selects.count(kind_name(group.kind), number);
+                let mut in_turn = [individual, asked.overall].into_iter();
+                if let Some(acting) = in_turn.find(|asked| select(*asked)) {
+                    self.fans.count_asked(element, acting);
+                }
             }
         }
     }
@@ -286,8 +307,8 @@ impl Coverage {
 }
 
 /// The fields of a status record that have their largest value.
-fn count_largest(tally: &mut Tally, configuration: &[u8], record: &[u8]) {
-    for byte in bytes_of_entries(configuration, record) {
+fn count_largest(tally: &mut Tally, entries: &[Entry]) {
+    for byte in bytes_of(entries) {
         if byte.most != 0 && byte.value == byte.most {
             tally.count(place_name(byte.place), byte.at);
         }
@@ -309,6 +330,13 @@ fn by_group<'a>(shelf: &'a Shelf, page: &[u8]) -> impl Iterator<Item = (&'a Grou
     zip(&shelf.groups, page.by_type(&configuration))
 }
 
+/// Of a status record that has as many as the configuration has places.
+fn entries_of(configuration: &[u8], record: &[u8]) -> Vec<Entry> {
+    let configuration = Configuration::read(configuration).expect("a well-formed configuration");
+    let (_, entries) = parts(&configuration, record).expect("an entry for each place");
+    zip(configuration.places(), entries).collect()
+}
+
 /// A byte of an entry, and the largest value that its place allows there, 0 if it shows nothing.
 struct EntryByte {
     place: Place,
@@ -317,15 +345,11 @@ struct EntryByte {
     most: u8,
 }
 
-/// Of a status record that has as many entries as the configuration has places.
-fn bytes_of_entries(configuration: &[u8], record: &[u8]) -> Vec<EntryByte> {
-    let configuration = Configuration::read(configuration).expect("a well-formed configuration");
-    let (_, entries) =
-        parts::<STATUS_ENTRY_BYTES>(&configuration, record).expect("an entry for each place");
-    let bytes = zip(configuration.places(), entries).flat_map(|(place, entry)| {
-        let values = zip(0.., zip(entry, place.largest()));
+fn bytes_of(entries: &[Entry]) -> Vec<EntryByte> {
+    let bytes = entries.iter().flat_map(|(place, entry)| {
+        let values = zip(0.., zip(*entry, place.largest()));
         values.map(move |(at, (value, most))| EntryByte {
-            place,
+            place: *place,
             at,
             value,
             most,

@@ -3,13 +3,14 @@
 use super::checks::Checks;
 use super::examples::{
     block_a, current, elements_in, fan, fan_with, group, handed_back, plain, shelf_a, shelf_a_of,
-    temperature, wishes_of_the_paper, with, NOISE, RST_SWAP, SPEED_5, SWAP, UNSELECTED,
+    stopped, temperature, wishes_of_the_paper, with, ALL_FLAGS, NOISE, RST_SWAP, SPEED_5, SWAP,
+    UNSELECTED,
 };
 use crate::cases;
 use crate::limits::{ELEMENTS_AT, ELEMENT_BYTES, HIGHEST_SPEED, TYPES_AT};
 use crate::pages::calls::{apply_control, apply_thresholds, write_status, Answer};
 use crate::pages::cases::{control, threshold_out};
-use crate::record::{Element, Kind, Shelf, Thresholds};
+use crate::record::{Element, Kind, Settings, Shelf, Thresholds};
 use crate::rng::Rng;
 
 const SEED: u64 = 0xAC7;
@@ -22,6 +23,8 @@ pub fn check(checks: &mut Checks) {
     headers_for_a(checks);
     choosing(checks);
     requested_speeds(checks);
+    stopped_and_started(checks);
+    speeds_while_stopped(checks);
     reserved_bits(checks);
     page_byte_1(checks);
     types_apart(checks);
@@ -161,7 +164,7 @@ fn choosing(checks: &mut Checks) {
     checks.equal(
         "fan with all bits but ON",
         shown(&answer),
-        vec![0x61, 0x80, 0x78, 0x57],
+        vec![0x61, 0x80, 0x78, 0x50],
     );
     let sensor = shelf_a_of(Kind::Temperature, vec![plain(Kind::Temperature)]);
     let all = [NOISE, [0xF0, 0xC0, 0x00, 0x00]];
@@ -189,6 +192,50 @@ fn requested_speeds(checks: &mut Checks) {
             answer,
             accepted(&shelf_a(vec![fan(speed)])),
         );
+    }
+}
+
+/// By a page that asks for speed code 0 and all else as it is stored, first without ON and then with it.
+fn stopped_and_started(checks: &mut Checks) {
+    let plain = (Settings::default(), [0x80, 0x00, 0x00], [0x01, 0x00, 0x00]);
+    let flagged = (ALL_FLAGS, [0xE0, 0x80, 0x40], [0x71, 0x80, 0x40]);
+    for (common, [byte0, byte1, byte3], [shown0, shown1, shown3]) in [plain, flagged] {
+        let (stop, start) = ([byte0, byte1, 0, byte3], [byte0, byte1, 0, byte3 + 0x20]);
+        for speed in 1..=HIGHEST_SPEED {
+            let fan = fan_with(common, speed);
+            let before = shelf_a(vec![fan]);
+            for in_place in [|element| [UNSELECTED, element], |element| [element, NOISE]] {
+                let off = apply_control(&before.block(), &control_page(&in_place(stop)));
+                let after = shelf_a(vec![stopped(fan)]);
+                checks.equal("stopped, SPEED kept", &off, &accepted(&after));
+                let status = vec![shown0, shown1, 0x78, shown3 + 0x10];
+                checks.equal("stopped, shown", shown(&off), status);
+                let on = apply_control(off.record(), &control_page(&in_place(start)));
+                checks.equal("started again", &on, &accepted(&before));
+                let status = vec![shown0, shown1, 0x78, shown3 + 0x20 + speed];
+                checks.equal("started again, shown", shown(&on), status);
+            }
+        }
+    }
+}
+
+/// A speed code without ON, over a fan that is ON and over a stopped one, shows once the fan is started.
+fn speeds_while_stopped(checks: &mut Checks) {
+    for before in [fan(3), stopped(fan(3))] {
+        for code in 0..=HIGHEST_SPEED {
+            let block = shelf_a(vec![before]).block();
+            let elements = [UNSELECTED, [0x80, 0x00, 0x00, code]];
+            let off = apply_control(&block, &control_page(&elements));
+            let speed = if code == 0 { 3 } else { code };
+            let after = shelf_a(vec![stopped(fan(speed))]);
+            checks.equal("requested speed, stored", &off, &accepted(&after));
+            let status = vec![0x01, 0x00, 0x78, 0x10];
+            checks.equal("requested speed, not shown", shown(&off), status);
+            let elements = [UNSELECTED, [0x80, 0x00, 0x00, 0x20]];
+            let on = apply_control(off.record(), &control_page(&elements));
+            let status = vec![0x01, 0x00, 0x78, 0x20 + speed];
+            checks.equal("requested speed, shown", shown(&on), status);
+        }
     }
 }
 

@@ -3,13 +3,13 @@
 
 use super::checks::Checks;
 use super::examples::{
-    block_a, elements_in, fan, fan_with, fans_a, group, plain, shelf_a, shelf_a_of,
-    wishes_of_the_paper, with, Example, BEFORE, NOISE, RST_SWAP, SWAP, UNSELECTED,
+    block_a, elements_in, fan, fan_with, fans_a, group, plain, shelf_a, shelf_a_of, stopped,
+    wishes_of_the_paper, with, Example, BEFORE, NOISE, RST_SWAP, SPEED_5, SWAP, UNSELECTED,
 };
 use crate::cases;
 use crate::element::Request;
-use crate::limits::{ELEMENTS_AT, ELEMENT_BYTES, TYPES_AT};
-use crate::pages::calls::{apply_control, build_control, Answer};
+use crate::limits::{ELEMENTS_AT, ELEMENT_BYTES, HIGHEST_SPEED, TYPES_AT};
+use crate::pages::calls::{apply_control, build_control, write_status, Answer};
 use crate::pages::cases::control;
 use crate::pages::cases::wishes::Few;
 use crate::record::{Element, Kind};
@@ -21,6 +21,7 @@ const ROUNDS: usize = 300;
 
 pub fn check(checks: &mut Checks) {
     fans_a_wished(checks);
+    same_status_other_page(checks);
     order_of_refusals(checks);
     records_of_types(checks);
     types_apart(checks);
@@ -82,8 +83,62 @@ fn swaps_wanted() -> [Example; 2] {
     ]
 }
 
+const ON: [u8; 4] = [0x80, 0x00, 0x00, 0x20];
+const OFF: [u8; 4] = [0x80, 0x00, 0x00, 0x00];
+const OFF_SPEED_5: [u8; 4] = [0x80, 0x00, 0x00, 0x05];
+
+/// Beyond the paper's: fans that are stopped, or should be.
+fn stops_wanted() -> [Example; 6] {
+    let off = [3, 4, 5].map(|speed| stopped(fan(speed)));
+    [
+        Example {
+            what: "all started, speeds as stored",
+            stored: off,
+            wanted: [fan(3), fan(4), fan(5)],
+            elements: [ON, UNSELECTED, UNSELECTED, UNSELECTED],
+            selects: 1,
+        },
+        Example {
+            what: "all started with speed 5",
+            stored: off,
+            wanted: [fan(5); 3],
+            elements: [SPEED_5, UNSELECTED, UNSELECTED, UNSELECTED],
+            selects: 1,
+        },
+        Example {
+            what: "all stopped with speed 5",
+            stored: fans_a(),
+            wanted: [stopped(fan(5)); 3],
+            elements: [OFF_SPEED_5, UNSELECTED, UNSELECTED, UNSELECTED],
+            selects: 1,
+        },
+        Example {
+            what: "middle fan stopped",
+            stored: fans_a(),
+            wanted: [fan(3), stopped(fan(3)), fan(3)],
+            elements: [UNSELECTED, UNSELECTED, OFF, UNSELECTED],
+            selects: 1,
+        },
+        Example {
+            what: "stopped as they are, all with speed 5",
+            stored: off,
+            wanted: [off[2]; 3],
+            elements: [OFF_SPEED_5, UNSELECTED, UNSELECTED, UNSELECTED],
+            selects: 1,
+        },
+        Example {
+            what: "stopped as stored",
+            stored: off,
+            wanted: off,
+            elements: [UNSELECTED; 4],
+            selects: 0,
+        },
+    ]
+}
+
 fn fans_a_wished(checks: &mut Checks) {
-    for example in wishes_of_the_paper().chain(swaps_wanted()) {
+    let own = swaps_wanted().into_iter().chain(stops_wanted());
+    for example in wishes_of_the_paper().chain(own) {
         let block = shelf_a(example.stored.to_vec()).block();
         let answer = build_control(&block, &wanted(&example.wanted), &[BEFORE; 30]);
         let page = page_a(example.elements);
@@ -92,6 +147,27 @@ fn fans_a_wished(checks: &mut Checks) {
     let swaps = wanted(&[fan_with(SWAP, 3), fan(3), fan(3)]);
     let answer = build_control(&block_a(), &swaps, &[BEFORE; 30]);
     checks.equal("SWAP over none", answer, not_built(10, 30));
+}
+
+/// Shelves that differ in nothing but the stored SPEED of a stopped fan, which should be ON with SPEED 5.
+fn same_status_other_page(checks: &mut Checks) {
+    let status = [
+        0x02, 0x00, 0x00, 0x14, 0x00, 0x00, 0x00, 0x07, 0x01, 0x00, 0x00, 0x00, 0x01, 0x00, 0x78,
+        0x23, 0x01, 0x00, 0x78, 0x10, 0x01, 0x00, 0x78, 0x23,
+    ];
+    for speed in 1..=HIGHEST_SPEED {
+        let block = shelf_a(vec![fan(3), stopped(fan(speed)), fan(3)]).block();
+        let answer = write_status(&block, &[BEFORE; 24]);
+        checks.equal("the same status", &answer.bytes[5..], &status[..]);
+        let asked = if speed == 5 { ON } else { SPEED_5 };
+        let page = page_a([UNSELECTED, UNSELECTED, asked, UNSELECTED]);
+        let wish = wanted(&[fan(3), fan(5), fan(3)]);
+        checks.equal(
+            &format!("started with speed 5 over {speed}"),
+            build_control(&block, &wish, &[BEFORE; 24]),
+            built(&page, 1, 24),
+        );
+    }
 }
 
 fn order_of_refusals(checks: &mut Checks) {
@@ -153,9 +229,11 @@ fn records_of_types(checks: &mut Checks) {
             checks.equal(&what, answer.number, number);
         }
     }
-    let stopped = with(&wanted(&fans_a()), 7, &[0x20]);
-    let answer = build_control(&block_a(), &stopped, &[BEFORE; 24]);
-    checks.equal("speed 0 of the middle fan", answer, not_built(9, 24));
+    for byte3 in [0x20, 0x00] {
+        let no_speed = with(&wanted(&fans_a()), 7, &[byte3]);
+        let answer = build_control(&block_a(), &no_speed, &[BEFORE; 24]);
+        checks.equal("speed 0 of the middle fan", answer, not_built(9, 24));
+    }
 }
 
 /// Fans, a type without elements and fans again, which get the same wish: each type has its own SELECT.
@@ -216,7 +294,7 @@ struct World {
     shelves: usize,
 }
 
-const WORLDS: [World; 11] = [
+const WORLDS: [World; 12] = [
     World {
         types: &[Few::new(Kind::Temperature, 1, 0, 0x70C0_0000)],
         bytes1: &[0x00, 0x01, 0x0F, 0x10],
@@ -241,6 +319,11 @@ const WORLDS: [World; 11] = [
         types: &[Few::new(Kind::Cooling, 2, 0, 0x0080_0003)],
         bytes1: &[0x00],
         shelves: 30,
+    },
+    World {
+        types: &[Few::new(Kind::Cooling, 2, 0, 0x0000_0023)],
+        bytes1: &[0x00],
+        shelves: 12,
     },
     World {
         types: &[Few::new(Kind::Cooling, 3, 0x0000_0020, 0x0000_0003)],

@@ -2,15 +2,18 @@
 
 use super::checks::Checks;
 use super::examples::{
-    current, fan, fan_at, fans_a, high_critical, high_warning, largest_shelf, low_critical,
-    low_warning, shelf_a, temperature, voltage,
+    current, fan, fan_at, fan_like, fans_a, high_critical, high_warning, largest_shelf,
+    low_critical, low_warning, shelf_a, stopped, temperature, voltage, ALL_FLAGS,
 };
 use crate::element::{Code, Limits, Verdict};
-use crate::limits::{element_at, HIGHEST_NOMINAL, LONGEST_BLOCK, SLOTS_AT, TYPES_AT};
-use crate::record::{self, Element, FanSettings, Kind, Settings, Thresholds};
+use crate::limits::{
+    element_at, HIGHEST_NOMINAL, HIGHEST_SPEED, LONGEST_BLOCK, SLOTS_AT, TYPES_AT,
+};
+use crate::record::{self, Element, Kind, Settings, Thresholds};
 
 pub fn check(checks: &mut Checks) {
     fan_status(checks);
+    speed_codes(checks);
     temperature_verdicts(checks);
     voltage_verdicts(checks);
     current_verdicts(checks);
@@ -72,22 +75,37 @@ fn fan_status(checks: &mut Checks) {
     shown_of(checks, fans);
     let standing = fan_at(0);
     checks.equal("ON, reading 0", standing.verdict().code, Code::Critical);
-    let off = Element::Cooling {
-        settings: FanSettings {
-            common: Settings::default(),
-            on: false,
-            speed: 3,
-        },
-        thresholds: Thresholds::default(),
-        reading: 0,
-        nominal: 0,
-    };
+    let off = stopped(standing);
     let shown = [
         ("ON, reading 0", standing, [0x02, 0x00, 0x00, 0x23]),
-        ("OFF, reading 0", off, [0x01, 0x00, 0x00, 0x13]),
+        ("OFF, reading 0", off, [0x01, 0x00, 0x00, 0x10]),
         ("reading 2047", fan_at(2047), [0x01, 0x07, 0xFF, 0x23]),
     ];
     shown_of(checks, shown);
+}
+
+/// Whether a fan turns does not matter: ON shows the stored SPEED, and stopped shows 0.
+fn speed_codes(checks: &mut Checks) {
+    let readings = [
+        (0, 2, [0x00, 0x00]),
+        (1, 1, [0x00, 0x01]),
+        (258, 1, [0x01, 0x02]),
+        (2047, 1, [0x07, 0xFF]),
+    ];
+    for speed in 1..=HIGHEST_SPEED {
+        for (reading, code, [upper, lower]) in readings {
+            let plain = fan_like(Settings::default(), speed, reading);
+            let flagged = fan_like(ALL_FLAGS, speed, reading);
+            let shown = [
+                (plain, [code, upper, lower, 0x20 + speed]),
+                (stopped(plain), [0x01, upper, lower, 0x10]),
+                (flagged, [0x70 + code, 0x80 + upper, lower, 0x60 + speed]),
+                (stopped(flagged), [0x71, 0x80 + upper, lower, 0x50]),
+            ];
+            let what = format!("SPEED {speed}, reading {reading}");
+            shown_of(checks, shown.map(|(fan, status)| (&what[..], fan, status)));
+        }
+    }
 }
 
 fn temperature_verdicts(checks: &mut Checks) {
@@ -211,6 +229,12 @@ fn block_of_fans_a(checks: &mut Checks) {
     checks.equal("names of A", &block[element_at(3)..], &[0; 4 * 32]);
     checks.equal("A is well formed", shelf.well_formed(), true);
     checks.equal("A read back", record::read(&block), Some(shelf));
+    for speed in 0..=HIGHEST_SPEED {
+        for fan in [fan(speed), stopped(fan(speed))] {
+            let well_formed = shelf_a(vec![fan]).well_formed();
+            checks.equal("SPEED of any fan", well_formed, speed != 0);
+        }
+    }
     let mut largest = largest_shelf();
     checks.equal("longest block", largest.block().len(), LONGEST_BLOCK);
     checks.equal("most elements", largest.well_formed(), true);

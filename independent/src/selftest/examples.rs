@@ -27,6 +27,14 @@ pub const SWAP: Settings = Settings {
     fail: false,
 };
 
+pub const ALL_FLAGS: Settings = Settings {
+    prdfail: true,
+    disabled: true,
+    swap: true,
+    ident: true,
+    fail: true,
+};
+
 /// A fan as in shelf A, but for its speed code.
 pub fn fan(speed: u8) -> Element {
     fan_with(Settings::default(), speed)
@@ -51,6 +59,14 @@ pub fn fan_like(common: Settings, speed: u8, reading: u16) -> Element {
         reading,
         nominal: 0,
     }
+}
+
+/// The fan, but not ON.
+pub fn stopped(mut fan: Element) -> Element {
+    if let Element::Cooling { settings, .. } = &mut fan {
+        settings.on = false;
+    }
+    fan
 }
 
 /// Three fans of a shelf like A, stored and wanted; the best page's elements, and the SELECTs among them.

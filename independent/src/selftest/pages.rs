@@ -3,8 +3,8 @@
 use super::checks::Checks;
 use super::examples::{
     block_a, current, fan, fan_at, fan_like, fans_a, group, handed_back, high_critical,
-    high_warning, low_critical, plain, shelf_a, shelf_a_of, temperature, voltage, with, BEFORE,
-    SWAP,
+    high_warning, low_critical, plain, shelf_a, shelf_a_of, stopped, temperature, voltage, with,
+    ALL_FLAGS, BEFORE, SWAP,
 };
 use crate::limits::{
     CONFIGURATION_BYTES, FASTEST, HIGHEST_CODE, HIGHEST_SPEED, STATUS_BYTES, STATUS_ENTRY_BYTES,
@@ -14,7 +14,7 @@ use crate::pages::calls::{
     read_configuration, read_status, read_thresholds, rewrite_configuration, rewrite_status,
     rewrite_thresholds, write_configuration, write_status, write_thresholds, Answer,
 };
-use crate::record::{Element, Kind, Settings, Thresholds};
+use crate::record::{Element, Kind, Thresholds};
 
 const STATUS_A: [u8; 24] = [
     0x02, 0x00, 0x00, 0x14, 0x00, 0x00, 0x00, 0x07, 0x01, 0x00, 0x00, 0x00, 0x01, 0x00, 0x78, 0x23,
@@ -36,6 +36,7 @@ pub fn check(checks: &mut Checks) {
     status_fields(checks);
     statuses_handed_back(checks);
     fields_handed_back(checks);
+    speed_codes_as_shown(checks);
     statuses_rewritten(checks);
     fields_rewritten(checks);
     worst_codes(checks);
@@ -106,6 +107,14 @@ fn pages_of_a(checks: &mut Checks) {
         write_status(&standing, &[BEFORE; 24]),
         written(&page, 24),
     );
+    for speed in 1..=HIGHEST_SPEED {
+        let one_stopped = shelf_a(vec![fan(3), stopped(fan(speed)), fan(3)]).block();
+        checks.equal(
+            "middle fan stopped, whole",
+            write_status(&one_stopped, &[BEFORE; 24]),
+            written(&with(&STATUS_A, 16, &[0x01, 0x00, 0x78, 0x10]), 24),
+        );
+    }
 }
 
 fn output_lengths(checks: &mut Checks) {
@@ -273,25 +282,19 @@ fn record_a() -> Vec<u8> {
 }
 
 /// Elements of each type, with all flags that they can show at once, and their entries.
-fn entries_of_elements() -> [(Element, [u8; STATUS_ENTRY_BYTES]); 6] {
-    let all = Settings {
-        prdfail: true,
-        disabled: true,
-        swap: true,
-        ident: true,
-        fail: true,
-    };
-    let mut stopped = fan_like(all, 7, 2047);
-    if let Element::Cooling { settings, .. } = &mut stopped {
-        settings.on = false;
-    }
+fn entries_of_elements() -> [(Element, [u8; STATUS_ENTRY_BYTES]); 7] {
+    let fast = fan_like(ALL_FLAGS, 7, 2047);
     let slow = fan_like(SWAP, 1, 258);
     let cold = temperature(9, Thresholds::from_bytes([8, 8, 10, 10]));
     let negative = voltage(-1, 1200, Thresholds::from_bytes([0, 0, 20, 20]));
     let high = voltage(1321, 1200, Thresholds::from_bytes([20, 0, 0, 0]));
     let above = current(1321, 1200, Thresholds::from_bytes([20, 20, 0, 0]));
     [
-        (stopped, [1, 1, 1, 1, 1, 7, 255, 1, 0, 1, 7, 0, 0, 0, 0, 0]),
+        (fast, [1, 1, 1, 1, 1, 7, 255, 1, 1, 0, 7, 0, 0, 0, 0, 0]),
+        (
+            stopped(fast),
+            [1, 1, 1, 1, 1, 7, 255, 1, 0, 1, 0, 0, 0, 0, 0, 0],
+        ),
         (slow, [1, 0, 0, 1, 0, 1, 2, 0, 1, 0, 1, 0, 0, 0, 0, 0]),
         (cold, [2, 0, 0, 0, 0, 0, 9, 1, 1, 1, 1, 0, 0, 0, 0, 0]),
         (
@@ -369,6 +372,26 @@ fn fields_handed_back(checks: &mut Checks) {
             let what = format!("{kind:?}, field {at} is 1");
             checks.equal(&what, &answer.record()[20..36], &entry[..]);
             let again = rewrite_status(&configuration, answer.record(), &[BEFORE; 16]);
+            checks.equal(&what, again, written(&page, 16));
+        }
+    }
+}
+
+/// RQSTED ON, OFF and the speed code of a fan in every combination, those that no shelf shows among them.
+fn speed_codes_as_shown(checks: &mut Checks) {
+    let configuration = shelf_a(vec![fan(3)]).configuration().block();
+    for flags in 0..4 {
+        let (on, off) = (flags / 2, flags % 2);
+        for code in 0..=HIGHEST_SPEED {
+            let elements = [[1, 0, 0, 0], [1, 0, 120, 0x20 * on + 0x10 * off + code]];
+            let page = [&HEADER_OF_TWO[..], &elements.concat()].concat();
+            let entry = [1, 0, 0, 0, 0, 0, 120, 0, on, off, code, 0, 0, 0, 0, 0];
+            let mut record = [&[0, 0, 0, 2][..], &OVERALL_OK, &entry].concat();
+            record.resize(STATUS_BYTES, BEFORE);
+            let what = format!("RQSTED ON {on}, OFF {off}, speed code {code}");
+            let answer = read_status(&configuration, &page, &[BEFORE; STATUS_BYTES]);
+            checks.equal(&what, answer, handed_back(0, 0, &record));
+            let again = rewrite_status(&configuration, &record, &[BEFORE; 16]);
             checks.equal(&what, again, written(&page, 16));
         }
     }

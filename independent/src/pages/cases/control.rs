@@ -1,12 +1,12 @@
 //! Enclosure Control pages.
 
 use super::acting::{aimed, put, slots, Actor, Chance, Slot, AIMS};
-use super::case::{Case, Offer};
+use super::case::{roomy_case, Case, Offer};
 use super::flaws::Attempt;
-use super::shapes::shelf;
+use super::shapes::{shelf, some_of_each};
 use crate::cases::one_type;
 use crate::limits::{element_at, most_elements_of, ELEMENTS_AT, ELEMENT_BYTES};
-use crate::pages::calls::APPLY_CONTROL;
+use crate::pages::calls::{APPLY_CONTROL, WRITE_STATUS};
 use crate::record::{Kind, Shelf};
 use crate::rng::Rng;
 use std::array::from_fn;
@@ -36,6 +36,9 @@ pub fn offer_all(rng: &mut Rng, offer: Offer) {
     }
     for _ in 0..500 {
         offer(as_stored(rng));
+    }
+    for _ in 0..300 {
+        there_and_back(rng, offer);
     }
 }
 
@@ -252,11 +255,54 @@ fn few_elements(rng: &mut Rng, kind: Kind) -> Case {
 fn as_stored(rng: &mut Rng) -> Case {
     let shelf = shelf(rng);
     let mut page = CONTROL.blank(&shelf);
-    let block = shelf.block();
-    let individual = slots(&shelf).into_iter().filter(|slot| !slot.overall);
-    for (slot, element) in individual.zip(block[ELEMENTS_AT..].chunks(ELEMENT_BYTES)) {
-        let [byte0, byte1, _, byte3] = [element[0], element[1], element[2], element[3]];
+    for (slot, [byte0, byte1, _, byte3]) in individual_settings(&shelf) {
         put(&mut page, slot, [0x80 | byte0 & 0x60, byte1, 0, byte3]);
     }
     CONTROL.case(&shelf, page)
+}
+
+/// The slot of each element, and what the element has stored.
+fn individual_settings(shelf: &Shelf) -> Vec<(Slot, [u8; 4])> {
+    let block = shelf.block();
+    let elements = block[ELEMENTS_AT..].chunks(ELEMENT_BYTES);
+    let settings = elements.map(|element| element[..4].try_into().expect("four bytes"));
+    let individual = slots(shelf).into_iter().filter(|slot| !slot.overall);
+    individual.zip(settings).collect()
+}
+
+/// One page stops fans that are ON and starts stopped ones, the next takes that back, and neither asks for a
+/// speed. The status page is written before, between and after.
+fn there_and_back(rng: &mut Rng, offer: Offer) {
+    let shelf = if rng.one_in(2) {
+        some_of_each(rng)
+    } else {
+        let count = rng.range(1, most_elements_of(1));
+        one_type(rng, Kind::Cooling, count)
+    };
+    let before = shelf.block();
+    let [there, back] = turning_pages(rng, &shelf);
+    let there = CONTROL.case_of(before.clone(), there);
+    let between = there.answer().record().to_vec();
+    let back = CONTROL.case_of(between.clone(), back);
+    let after = back.answer().record().to_vec();
+    assert_eq!(after, before, "a shelf there and back");
+    offer(roomy_case(rng, &WRITE_STATUS, vec![before]));
+    offer(there);
+    offer(roomy_case(rng, &WRITE_STATUS, vec![between]));
+    offer(back);
+    offer(roomy_case(rng, &WRITE_STATUS, vec![after]));
+}
+
+/// For some fans the other ON and then the one that they have, all else as it is.
+fn turning_pages(rng: &mut Rng, shelf: &Shelf) -> [Vec<u8>; 2] {
+    let often = Chance::any(rng);
+    let [mut there, mut back] = [CONTROL.blank(shelf), CONTROL.blank(shelf)];
+    for (slot, [byte0, byte1, _, byte3]) in individual_settings(shelf) {
+        if slot.kind == Kind::Cooling && often.comes(rng) {
+            let (byte0, byte3) = (0x80 | byte0 & 0x60, byte3 & 0x60);
+            put(&mut there, slot, [byte0, byte1, 0, byte3 ^ 0x20]);
+            put(&mut back, slot, [byte0, byte1, 0, byte3]);
+        }
+    }
+    [there, back]
 }

@@ -285,18 +285,20 @@ static void hold_record_of_names(void)
     hold_output("names, again", &out, labels, sizeof labels);
 }
 
-/* README.md's example for A's middle fan, whose SPEED 3 becomes 7. */
-static void hold_full_speed(void)
+/* README.md's example for A's middle fan with this byte 3 of its settings: ON or not, its SPEED 3 becomes 7, and it is ON. */
+static void hold_full_speed(uint8_t byte_3)
 {
     static const uint8_t asked[24] = {0x02, 0x00, 0x00, 0x14, 0x00, 0x00, 0x00, 0x07, [16] = 0x80, 0x00, 0x00, 0x27};
-    uint8_t wanted[SES_LONGEST_WANTED_LIST];
+    uint8_t shelf[A_LENGTH], wanted[SES_LONGEST_WANTED_LIST];
     struct output out;
+    memcpy(shelf, shelf_a, A_LENGTH);
+    shelf[351] = byte_3;
     for (size_t j = 0; j < 3; j++)
         memcpy(wanted + SES_SETTINGS_LENGTH * j,
-               shelf_a + SES_FIRST_ELEMENT + SES_ELEMENT_LENGTH * j, SES_SETTINGS_LENGTH);
-    wanted[SES_SETTINGS_LENGTH * 1 + 3] |= 7;
+               shelf + SES_FIRST_ELEMENT + SES_ELEMENT_LENGTH * j, SES_SETTINGS_LENGTH);
+    wanted[SES_SETTINGS_LENGTH * 1 + 3] |= 0x27;
     empty(&out);
-    hold("full speed", ses_build_control(shelf_a, A_LENGTH, wanted, SES_SETTINGS_LENGTH * 3,
+    hold("full speed", ses_build_control(shelf, A_LENGTH, wanted, SES_SETTINGS_LENGTH * 3,
                                          out.bytes, sizeof out.bytes, &out.written, &out.selects), 0);
     hold("full speed", out.selects, 1);
     hold_output("full speed", &out, asked, 24);
@@ -307,5 +309,6 @@ void hold_fields(void)
     hold_shown();
     hold_thresholds();
     hold_record_of_names();
-    hold_full_speed();
+    hold_full_speed(0x23);
+    hold_full_speed(0x03);
 }

@@ -2,13 +2,15 @@
  *
  * A shelf is one block of bytes that the caller owns (docs/LAYOUT.md). The library keeps no state and
  * allocates nothing. Every call takes whatever bytes it is given and answers with a refusal number, 0 if
- * it accepted. A refused call leaves every lent byte as it was, but for `written`, `selects`, `element` and
- * `offset`, which it sets: the first two to 0; `element` to SES_NO_ELEMENT; `offset` to the place on the
- * page, counted from 0, of the first byte that is not allowed if the answer is 6 (SES_NOT_ALLOWED), else to
- * 0, as after acceptance. Byte 0 is never that byte. Only calls that are given a page have an `offset`: what
- * is not allowed in a record or in a text is told by the number alone. No call has to be preceded by a
- * check, but for what C's types cannot say: a pointer is to as many bytes as its length or its type says,
- * and is not NULL, also where the length is 0; and what one call is lent does not overlap.
+ * it accepted, but for ses_empty_collector and ses_put_chunk, which have nothing to refuse. A refused call
+ * leaves every lent byte as it was, but for the collector of ses_end_page, which is empty after any answer,
+ * and for `written`, `selects`, `element` and `offset`, which it sets: the first two to 0; `element` to
+ * SES_NO_ELEMENT; `offset` to the place on the page, counted from 0, of the first byte that is not allowed if
+ * the answer is 6 (SES_NOT_ALLOWED), else to 0, as after acceptance. Byte 0 is never that byte. Only calls that
+ * are given a page, whole or in a collector, have an `offset`: what is not allowed in a record or in a text is
+ * told by the number alone. No call has to be preceded by a check, but for what C's types cannot say: a pointer
+ * is to as many bytes as its length or its type says, and is not NULL, also where the length is 0; and what one
+ * call is lent does not overlap.
  *
  * Link with libses.a (`rt staticlib ses`, x86-64).
  */
@@ -162,6 +164,16 @@ struct ses_names {
     struct ses_name entry[SES_MOST_SLOTS];
 };
 
+/* A control or threshold page that comes in chunks: how many bytes of it came, high byte first, and the first
+ * of them, as many as the longest such page has. The others are counted and not kept. The count stops at
+ * SES_COUNT_STOPS, one byte more than a page can say that it has; a count above that means that. */
+#define SES_COUNT_STOPS 65540
+
+struct ses_collector {
+    uint8_t count[4];
+    uint8_t page[SES_LONGEST_SLOT_PAGE];
+};
+
 /* Is the block a well-formed shelf?  0, or 1 (SES_SHELF_NOT_WELL_FORMED). */
 uint8_t ses_check(const uint8_t *shelf, size_t shelf_length);
 
@@ -231,6 +243,26 @@ uint8_t ses_apply_control(uint8_t *shelf, size_t shelf_length, const uint8_t *pa
  * its thresholds, the whole page is refused. */
 uint8_t ses_apply_thresholds(uint8_t *shelf, size_t shelf_length, const uint8_t *page, size_t page_length,
                              uint32_t *offset);
+
+/* Make a collector empty: its count becomes 0, and the bytes behind that stay. To be called once, before the
+ * first page. Whatever bytes a collector holds, every call on it ends; without this call they count as the
+ * start of the first page. */
+void ses_empty_collector(struct ses_collector *collector);
+
+/* Put the next chunk of a page behind those that came before. It may have any length: 0 adds nothing to the
+ * page, and what is past the longest page is only counted. Of the bytes behind the count no other changes. */
+void ses_put_chunk(struct ses_collector *collector, const uint8_t *chunk, size_t chunk_length);
+
+/* End the page in a collector: apply it to the shelf, as an enclosure control page if the code meant is 02h, as
+ * a threshold page (Out) if it is 05h. Answer, `offset` and shelf are those of ses_apply_control or
+ * ses_apply_thresholds on the bytes of all chunks joined, wherever they were cut. The shelf is the one of this
+ * call; those before are lent none.  Refusals 1, 2, 3, 4, 12, 5, 6; for thresholds 1, 2, 3, 4, 12, 5, 6, 7, 8,
+ * each in this order. A code meant that is neither is 3, whatever byte 0 of the page is. A page of
+ * SES_COUNT_STOPS bytes or more that is not refused before is 4.
+ * Accepted or refused, the collector is empty then, and the next chunk starts the next page; its bytes behind
+ * the count stay. A refused page leaves the shelf as it was. */
+uint8_t ses_end_page(struct ses_collector *collector, uint8_t *shelf, size_t shelf_length, uint8_t code,
+                     uint32_t *offset);
 
 /* Write the enclosure control page (02h) that brings every element to exactly the settings wanted: four bytes
  * for each element, in their order, as the shelf block stores them.  Refusals 1, 9, 10, 11.

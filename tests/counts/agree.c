@@ -1,8 +1,8 @@
-/* agree ROUNDS: every call on random shelves, pages, records, wishes and names, good and spoilt, by the library and by plain C.
- * Both get the same memory and must leave the same: answers, lengths, offsets, elements found and every lent byte. Each answer that
- * a call can give must come up, each byte of a page must be told as the first offending one and each byte of a record's entry be
- * the reason of a refusal, and texts of each kind be found and not be found, if they can. The random numbers are the same in every
- * run. */
+/* agree ROUNDS: every call on random shelves, pages, records, wishes, names and chunks, good and spoilt, by the library and by plain
+ * C. Both get the same memory and must leave the same: answers, lengths, offsets, elements found and every lent byte. A page in
+ * chunks must do what it does as a whole. Each answer that a call can give must come up, each byte of a page must be told as the
+ * first offending one and each byte of a record's entry be the reason of a refusal, texts of each kind be found and not be found, if
+ * they can, and chunks of each kind be put. The random numbers are the same in every run. */
 #include "plain.h"
 
 #include <stdio.h>
@@ -18,6 +18,7 @@ struct lent {
     struct ses_status status;
     struct ses_thresholds thresholds;
     struct ses_names names;
+    struct ses_collector collector;
     uint8_t text[TEXT_ROOM];
     uint32_t written, selects, offset, element, answer;
 };
@@ -28,7 +29,7 @@ static const struct {
 } parts[] = {
 #define PART(name) {#name, offsetof(struct lent, name), sizeof((struct lent *)0)->name}
     PART(shelf), PART(configuration), PART(page), PART(wanted), PART(out), PART(told),
-    PART(status), PART(thresholds), PART(names), PART(text),
+    PART(status), PART(thresholds), PART(names), PART(collector), PART(text),
     PART(written), PART(selects), PART(offset), PART(element), PART(answer),
 };
 
@@ -39,6 +40,7 @@ enum call {
     WRITE_THRESHOLDS, READ_THRESHOLDS, REWRITE_THRESHOLDS,
     WRITE_DESCRIPTORS, READ_DESCRIPTORS, REWRITE_DESCRIPTORS,
     APPLY_CONTROL, APPLY_THRESHOLDS, BUILD_CONTROL,
+    EMPTY_COLLECTOR, PUT_CHUNK, END_PAGE,
     FIND_NAME, SET_NAME, SET_OVERALL_NAME,
     CALLS
 };
@@ -85,6 +87,10 @@ static const struct {
                        {[FIXED_PART] = 0x2, [OVERALL] = 0xF, [INDIVIDUAL] = 0xF, [BEHIND] = 1}},
     [APPLY_THRESHOLDS] = {"apply_thresholds", {1, 2, 3, 4, 12, 5, 6, 7, 8}, {[FIXED_PART] = 0x2}},
     [BUILD_CONTROL] = {"build_control", {1, 9, 10, 11}, {0}},
+    [EMPTY_COLLECTOR] = {"empty_collector", {0}, {0}},
+    [PUT_CHUNK] = {"put_chunk", {0}, {0}},
+    [END_PAGE] = {"end_page", {1, 2, 3, 4, 12, 5, 6, 7, 8},
+                  {[FIXED_PART] = 0x2, [OVERALL] = 0xF, [INDIVIDUAL] = 0xF}},
     [FIND_NAME] = {"find_name", {1}, {0}},
     [SET_NAME] = {"set_name", {1, 15, 6}, {0}},
     [SET_OVERALL_NAME] = {"set_overall_name", {1, 15, 6}, {0}},
@@ -133,6 +139,26 @@ static const struct {
 };
 
 static unsigned found[KINDS][2];
+
+/* The chunks of a page by where they end, and how often each was put. */
+enum end { NOWHERE, IN_ROOM, AT_ROOM_END, PAST_ROOM_END, BEHIND_ROOM, AT_STOP, PAST_STOP, BEHIND_STOP, ABOVE_STOP, ENDS };
+
+static const char *const ends[ENDS] = {
+    [NOWHERE] = "of no bytes",
+    [IN_ROOM] = "that ends in the room",
+    [AT_ROOM_END] = "that fills the room",
+    [PAST_ROOM_END] = "that goes past the room",
+    [BEHIND_ROOM] = "behind a full room",
+    [AT_STOP] = "with which the count stops",
+    [PAST_STOP] = "that goes past where the count stops",
+    [BEHIND_STOP] = "behind a stopped count",
+    [ABOVE_STOP] = "behind a count that is too large",
+};
+
+static unsigned ended[ENDS];
+
+/* How often pages from nothing that are longer than any shelf needs, by more than a byte or two, had each answer. */
+static unsigned given_to_long[ANSWERS];
 
 /* What both sides start from, and what each left. */
 static struct lent start, library, plain;
@@ -383,6 +409,18 @@ static void compare(enum call call)
         at = lend(&plain);                                                                                             \
         answer = plain_##name(__VA_ARGS__);                                                                            \
         at->answer = answer;                                                                                           \
+        compare(number);                                                                                               \
+    } while (0)
+
+/* A call that does not answer counts as one that accepts. */
+#define BOTH_SILENT(number, name, ...)                                                                                 \
+    do {                                                                                                               \
+        struct lent *at = lend(&library);                                                                              \
+        ses_##name(__VA_ARGS__);                                                                                       \
+        at->answer = 0;                                                                                                \
+        at = lend(&plain);                                                                                             \
+        plain_##name(__VA_ARGS__);                                                                                     \
+        at->answer = 0;                                                                                                \
         compare(number);                                                                                               \
     } while (0)
 
@@ -715,6 +753,119 @@ static void compare_apply(void)
     BOTH_TELL(APPLY_THRESHOLDS, apply_thresholds, start.shelf, SHELF, PAGE);
 }
 
+/* Pages in chunks. */
+
+/* The next call starts from what the last one left. */
+static void go_on(void)
+{
+    memcpy(&start, &plain, sizeof start);
+}
+
+static uint64_t collected(void)
+{
+    const uint8_t *count = start.collector.count;
+    return (uint32_t)count[0] << 24 | (uint32_t)count[1] << 16 | (uint32_t)count[2] << 8 | count[3];
+}
+
+static enum end end_of_chunk(uint64_t count, size_t length)
+{
+    uint64_t end = count + length;
+    if (count > 65540)
+        return ABOVE_STOP;
+    if (length == 0)
+        return NOWHERE;
+    if (count >= 296)
+        return count == 65540 ? BEHIND_STOP : end < 65540 ? BEHIND_ROOM : end == 65540 ? AT_STOP : PAST_STOP;
+    return end < 296 ? IN_ROOM : end == 296 ? AT_ROOM_END : PAST_ROOM_END;
+}
+
+static void put_chunk(size_t at_byte, size_t length)
+{
+    ended[end_of_chunk(collected(), length)]++;
+    BOTH_SILENT(PUT_CHUNK, put_chunk, &at->collector, at->page + at_byte, length);
+    go_on();
+}
+
+/* The page in chunks, now and then in single bytes. */
+static void put_page(void)
+{
+    int single = one_in(page_length > 300 ? 100 : 10);
+    for (size_t at_byte = 0, length; at_byte < page_length; at_byte += length) {
+        length = single ? 1 : below((uint32_t)(page_length - at_byte) + 1);
+        put_chunk(at_byte, length);
+    }
+    if (one_in(8))
+        put_chunk(page_length, 0);
+}
+
+/* Any bytes are a collector. This one has a count near to where something ends or where its bytes run over, or any. */
+static void make_collector(void)
+{
+    static const uint32_t near[] = {1, 4, 24, 296, 65536, 65540, 0x1000000, 0xFFFFFFFF};
+    uint32_t count = near[below(sizeof near / sizeof *near)] + below(3) - 1;
+    fill(&start.collector, sizeof start.collector);
+    if (one_in(3))
+        return;
+    put2(start.collector.count, count >> 16);
+    put2(start.collector.count + 2, count & 0xFFFF);
+}
+
+/* Now and then longer than any page, and then mostly of the length that it says. */
+static void make_page_to_put(uint8_t code)
+{
+    make_out_page(code, code == 0x02 ? make_control : make_limits);
+    spoil_page();
+    if (!one_in(8))
+        return;
+    page_length = 297 + below(one_in(2) ? 4 : 3000);
+    if (!one_in(4))
+        put_page_length();
+}
+
+/* The same page as a whole, on the shelf as it was before the end call, has to have the same answer and to leave the same shelf. */
+static void compare_with_whole(uint8_t code)
+{
+    uint32_t offset, answer;
+    answer = code == 0x02 ? plain_apply_control(start.shelf, shelf_length, start.page, page_length, &offset)
+                          : plain_apply_thresholds(start.shelf, shelf_length, start.page, page_length, &offset);
+    int same_shelf = memcmp(start.shelf, plain.shelf, ROOM) == 0;
+    if (answer == plain.answer && offset == plain.offset && same_shelf)
+        return;
+    fprintf(stderr, "agree: round %ld: in chunks a page is answered %u with byte %u, as a whole %u with byte %u and %s shelf\n",
+            round_number, plain.answer, plain.offset, answer, offset, same_shelf ? "the same" : "another");
+    exit(1);
+}
+
+static void end_page(uint8_t code, int from_nothing)
+{
+    BOTH(END_PAGE, end_page, &at->collector, SHELF, code, &at->offset);
+    if (plain.answer == SES_NOT_ALLOWED)
+        count_in_slots(END_PAGE, start.shelf, plain.offset);
+    if (from_nothing && page_length > 300)
+        given_to_long[plain.answer]++;
+    if (from_nothing && (code == 0x02 || code == 0x05))
+        compare_with_whole(code);
+    go_on();
+}
+
+/* Pages one after the other in one collector. The first is put into an empty one, or into any. */
+static void compare_chunks(void)
+{
+    int from_nothing = !one_in(4);
+    make_collector();
+    if (from_nothing) {
+        BOTH_SILENT(EMPTY_COLLECTOR, empty_collector, &at->collector);
+        go_on();
+    }
+    do {
+        uint8_t code = one_in(2) ? 0x02 : 0x05;
+        make_page_to_put(code);
+        put_page();
+        end_page(one_in(8) ? (uint8_t)below(8) : one_in(32) ? (uint8_t)below(256) : code, from_nothing);
+        from_nothing = 1;
+    } while (one_in(2));
+}
+
 /* The builder. */
 
 /* Of the elements of a type, these parts are wanted otherwise, mostly like the one before. SWAP is seldom wanted where it is not
@@ -892,6 +1043,29 @@ static int all_found(void)
     return right;
 }
 
+static int all_ended(void)
+{
+    int right = 1;
+    for (int end = 0; end < ENDS; end++)
+        if (ended[end] == 0) {
+            fprintf(stderr, "agree: no chunk %s was put\n", ends[end]);
+            right = 0;
+        }
+    return right;
+}
+
+/* Long pages are refused with 1, 3, 4 and 12, and with no other. */
+static int all_long(void)
+{
+    int right = 1;
+    for (unsigned answer = 0; answer < ANSWERS; answer++)
+        if ((given_to_long[answer] != 0) != (answer == 1 || answer == 3 || answer == 4 || answer == 12)) {
+            fprintf(stderr, "agree: a page in chunks that is too long was answered %u %u times\n", answer, given_to_long[answer]);
+            right = 0;
+        }
+    return right;
+}
+
 static void print_given(void)
 {
     printf("%-22s", "");
@@ -921,8 +1095,9 @@ int main(int argc, char **argv)
         compare_apply();
         compare_build();
         compare_names();
+        compare_chunks();
     }
-    if (!(all_given() & all_told() & all_refused() & all_names_refused() & all_found()))
+    if (!(all_given() & all_told() & all_refused() & all_names_refused() & all_found() & all_ended() & all_long()))
         return 1;
     printf("The library and plain C agree on %ld random shelves and their pages. How often each call gave each answer:\n", rounds);
     print_given();

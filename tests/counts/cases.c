@@ -1,5 +1,6 @@
-/* The cases: each call, the builder with each of four wishes and the calls on names with long names and with none, on each of four
- * shelves. This runs in the emulated processor, without a C library. The counter calls prepare, and then from the same memory each of the two functions that `job` names. */
+/* The cases: each call, the builder with each of four wishes, the calls on names with long names and with none, and a page put as
+ * one chunk and byte by byte, on each of four shelves. This runs in the emulated processor, without a C library. The counter calls
+ * prepare, and then from the same memory each of the two functions that `job` names, as often as it says. */
 #include "cases.h"
 #include "plain.h"
 
@@ -15,6 +16,7 @@ static uint8_t wanted[SES_LONGEST_WANTED_LIST], out[SES_LONGEST_DESCRIPTOR_PAGE 
 static struct ses_status status;
 static struct ses_thresholds thresholds;
 static struct ses_names names;
+static struct ses_collector collector;
 static uint32_t written, selects, offset, found;
 
 static size_t shelf_length, page_length;
@@ -214,6 +216,8 @@ static void ask_for(unsigned t, unsigned place)
         job.library = (uintptr_t)ses_##name;                                                                           \
         job.plain = (uintptr_t)plain_##name;                                                                           \
         memcpy(job.arguments, (const uint64_t[8]){__VA_ARGS__}, sizeof job.arguments);                                 \
+        job.times = 1;                                                                                                 \
+        job.silent = 0;                                                                                                \
     } while (0)
 
 static void check(void)
@@ -354,6 +358,44 @@ static void apply_thresholds(void)
     JOB(apply_thresholds, SHELF, PAGE, (uintptr_t)&offset);
 }
 
+/* Some bytes of a page came. */
+static void empty_collector(void)
+{
+    plain_put_chunk(&collector, page, page_length);
+    JOB(empty_collector, (uintptr_t)&collector);
+    job.silent = 1;
+}
+
+/* What the page asks for does not matter here. */
+static void put_page(void)
+{
+    make_out_page(0x02, ask_control);
+    JOB(put_chunk, (uintptr_t)&collector, PAGE);
+    job.silent = 1;
+}
+
+static void put_bytes(void)
+{
+    make_out_page(0x02, ask_control);
+    JOB(put_chunk, (uintptr_t)&collector, (uintptr_t)page, 1);
+    job.silent = 1;
+    job.times = page_length;
+}
+
+static void end_control(void)
+{
+    make_out_page(0x02, ask_control);
+    plain_put_chunk(&collector, page, page_length);
+    JOB(end_page, (uintptr_t)&collector, SHELF, 0x02, (uintptr_t)&offset);
+}
+
+static void end_thresholds(void)
+{
+    make_out_page(0x05, ask_thresholds);
+    plain_put_chunk(&collector, page, page_length);
+    JOB(end_page, (uintptr_t)&collector, SHELF, 0x05, (uintptr_t)&offset);
+}
+
 static void build_as_stored(void)
 {
     JOB(build_control, SHELF, (uintptr_t)wanted, 4 * elements, OUT, (uintptr_t)&selects);
@@ -394,6 +436,11 @@ static const struct {
     {"rewrite_thresholds", rewrite_thresholds},
     {"apply_control", apply_control},
     {"apply_thresholds", apply_thresholds},
+    {"empty_collector", empty_collector},
+    {"put_chunk, whole page", put_page},
+    {"put_chunk, byte by byte", put_bytes},
+    {"end_page, control", end_control},
+    {"end_page, thresholds", end_thresholds},
     {"build_control, as stored", build_as_stored},
     {"build_control, one element", build_one_element},
     {"build_control, all alike", build_all_alike},
@@ -423,6 +470,8 @@ static void start(unsigned s)
     memset(&status, 0xEE, sizeof status);
     memset(&thresholds, 0xEE, sizeof thresholds);
     memset(&names, 0xEE, sizeof names);
+    memset(&collector, 0xEE, sizeof collector);
+    plain_empty_collector(&collector);
     written = selects = offset = found = 0xEEEEEEEE;
 }
 

@@ -1,6 +1,7 @@
 /* count IMAGE: executes each case of an x86-64 image (cases.c) in an emulated processor, by the library and by plain C, and prints
- * the instructions of both. Both start from the same memory, must accept, and must leave the same. A string instruction with a
- * repeat prefix counts once for each repetition. This program itself may run on any processor with the low byte first. */
+ * the instructions of both. Both start from the same memory, must accept if they answer, and must leave the same. A string
+ * instruction with a repeat prefix counts once for each repetition. This program itself may run on any processor with the low byte
+ * first. */
 #include "cases.h"
 
 #include <elf.h>
@@ -171,10 +172,18 @@ static struct job prepare(uint64_t number, uint64_t shelf)
 
 static struct count run(const struct job *job, int side)
 {
+    struct count sum = {0};
+    uint64_t arguments[8];
+    memcpy(arguments, job->arguments, sizeof arguments);
     must(uc_mem_write(processor, data_start, before, data_size), "the memory");
-    struct count count = call(side == 0 ? job->library : job->plain, job->arguments);
+    for (uint64_t i = 0; i < job->times; i++, arguments[1]++) {
+        struct count count = call(side == 0 ? job->library : job->plain, arguments);
+        sum.instructions += count.instructions;
+        sum.stack = count.stack > sum.stack ? count.stack : sum.stack;
+        sum.answer = job->silent ? 0 : count.answer;
+    }
     must(uc_mem_read(processor, data_start, after[side], data_size), "the memory");
-    return count;
+    return sum;
 }
 
 static void compare_memory(const struct job *job)

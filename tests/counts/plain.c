@@ -1122,6 +1122,47 @@ uint8_t plain_apply_control(uint8_t *shelf, size_t shelf_length, const uint8_t *
     return SES_ACCEPTED;
 }
 
+/* Pages in chunks. */
+
+enum { LONGEST_PAGE = SLOTS + SLOT_LENGTH * MOST_SLOTS, COUNT_STOPS = 65540 };
+
+static uint32_t collected(const struct ses_collector *collector)
+{
+    uint32_t count = number4(collector->count);
+    return count < COUNT_STOPS ? count : COUNT_STOPS;
+}
+
+void plain_empty_collector(struct ses_collector *collector)
+{
+    put4(collector->count, 0);
+}
+
+void plain_put_chunk(struct ses_collector *collector, const uint8_t *chunk, size_t chunk_length)
+{
+    uint32_t count = collected(collector);
+    if (count < LONGEST_PAGE) {
+        size_t room = LONGEST_PAGE - count;
+        memcpy(collector->page + count, chunk, chunk_length < room ? chunk_length : room);
+    }
+    put4(collector->count, chunk_length < COUNT_STOPS - count ? count + (uint32_t)chunk_length : COUNT_STOPS);
+}
+
+/* Behind the header only a page of the length needed is looked at, and of such a page every byte was kept. */
+uint8_t plain_end_page(struct ses_collector *collector, uint8_t *shelf, size_t shelf_length, uint8_t code,
+                       uint32_t *offset)
+{
+    size_t length = collected(collector);
+    plain_empty_collector(collector);
+    if (code == CONTROL_PAGE)
+        return plain_apply_control(shelf, shelf_length, collector->page, length, offset);
+    if (code == THRESHOLD_PAGE)
+        return plain_apply_thresholds(shelf, shelf_length, collector->page, length, offset);
+    *offset = 0;
+    if (shelf_elements(shelf, shelf_length) < 0)
+        return SES_SHELF_NOT_WELL_FORMED;
+    return length < 4 ? SES_PAGE_TOO_SHORT : SES_PAGE_CODE;
+}
+
 /* The builder. */
 
 /* The elements of one type, and what is wanted of them. */

@@ -43,6 +43,11 @@ uint8_t plain_apply_control(uint8_t *shelf, size_t shelf_length, const uint8_t *
 uint8_t plain_apply_thresholds(uint8_t *shelf, size_t shelf_length, const uint8_t *page, size_t page_length,
                                uint32_t *offset);
 
+void plain_empty_collector(struct ses_collector *collector);
+void plain_put_chunk(struct ses_collector *collector, const uint8_t *chunk, size_t chunk_length);
+uint8_t plain_end_page(struct ses_collector *collector, uint8_t *shelf, size_t shelf_length, uint8_t code,
+                       uint32_t *offset);
+
 uint8_t plain_build_control(const uint8_t *shelf, size_t shelf_length,
                             const uint8_t *wanted, size_t wanted_length,
                             uint8_t *out, size_t out_length,

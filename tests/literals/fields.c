@@ -1,5 +1,5 @@
-/* Lengths and fields of the header by their names: a status page, a threshold page and a page of names, read and written again,
- * and a control page built as README.md shows it. */
+/* Lengths and fields of the header by their names: a status page, a threshold page and a page of names, read and written again;
+ * a control page built, and one taken from a bus, as README.md shows it. */
 #include "literals.h"
 
 #include <string.h>
@@ -41,6 +41,13 @@ void hold_lengths(void)
     /* Four bytes, and 32 for each of 72 entries. */
     hold("struct ses_name", sizeof(struct ses_name), 32);
     hold("struct ses_names", sizeof(struct ses_names), 2308);
+    /* Request Four: the count stops there; it has four bytes, and behind them is room for 296. */
+    hold("SES_COUNT_STOPS", SES_COUNT_STOPS, 65540);
+    hold("struct ses_collector", sizeof(struct ses_collector), 300);
+    hold("count of struct ses_collector", offsetof(struct ses_collector, count), 0);
+    hold("count of struct ses_collector", sizeof ((struct ses_collector *)0)->count, 4);
+    hold("page of struct ses_collector", offsetof(struct ses_collector, page), 4);
+    hold("page of struct ses_collector", sizeof ((struct ses_collector *)0)->page, 296);
 }
 
 /* A status element, and what it shows. Byte 0: bit 6 PRDFAIL, 5 DISABLED, 4 SWAP, bits 3 to 0 the code. Each field of a type is
@@ -304,6 +311,28 @@ static void hold_full_speed(uint8_t byte_3)
     hold_output("full speed", &out, asked, 24);
 }
 
+/* README.md's other example: a page for A in two chunks asks for SPEED 5 for all. */
+static void hold_bus(void)
+{
+    static const uint8_t page[24] = {0x02, 0x00, 0x00, 0x14, 0x00, 0x00, 0x00, 0x07, 0x80, 0x00, 0x00, 0x25};
+    uint8_t shelf[A_LENGTH], left[A_LENGTH];
+    struct ses_collector collector;
+    struct told told;
+    memcpy(shelf, shelf_a, A_LENGTH);
+    put_fans(left, (const uint8_t[12]){0x00, 0x00, 0x00, 0x25, 0x00, 0x00, 0x00, 0x25, 0x00, 0x00, 0x00, 0x25});
+    fill(&collector, sizeof collector);
+    fill(&told, sizeof told);
+    ses_empty_collector(&collector);
+    ses_put_chunk(&collector, page, 10);
+    ses_put_chunk(&collector, page + 10, 14);
+    hold_bytes("bytes from a bus, counted", collector.count, (const uint8_t[4]){0, 0, 0, 24}, 4);
+    hold_bytes("bytes from a bus", collector.page, page, 24);
+    told.number = ses_end_page(&collector, shelf, A_LENGTH, 0x02, &told.offset);
+    hold_told("a page from a bus", told, 0, 0);
+    hold_bytes("a page from a bus", shelf, left, A_LENGTH);
+    hold_bytes("a page from a bus, ended", collector.count, (const uint8_t[4]){0, 0, 0, 0}, 4);
+}
+
 void hold_fields(void)
 {
     hold_shown();
@@ -311,4 +340,5 @@ void hold_fields(void)
     hold_record_of_names();
     hold_full_speed(0x23);
     hold_full_speed(0x03);
+    hold_bus();
 }

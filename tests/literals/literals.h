@@ -62,6 +62,7 @@ void hold_wish(const struct wish *w);
 void hold_fans_a(void);
 void hold_stopped(void);
 void hold_names(void);
+void hold_collector(void);
 void hold_refusals(void);
 void hold_meanings(const char *file);
 void hold_lengths(void);

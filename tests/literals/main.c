@@ -79,6 +79,7 @@ int main(int count, char **words)
     hold_fans_a();
     hold_stopped();
     hold_names();
+    hold_collector();
     hold_refusals();
     hold_meanings(words[1]);
     hold_lengths();

@@ -28,7 +28,7 @@ same-four s p j k hs hp e = sym (bytes-big (fourAt s j) (four-small s hs j)) ∙
 
 -- a frame that passed has the code, and says the length
 pub frame-parts : (p : List ℕ) (code : ℕ) → framed p code ≡ Accepted → (getD p 0 0 ≡ code) × (lengthSaid p ≡ true)
-unfolding framed codeTested saidTested
+unfolding framed codeTested saidTested lengthSaid
 frame-parts p code a =
     let h1 = held-both (sizeTested p) (next (codeTested p code) (saidTested p)) a in
     let h2 = held-both (codeTested p code) (saidTested p) (h1 .1) in

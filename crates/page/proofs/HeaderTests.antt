@@ -22,7 +22,7 @@ use Rattle.shelf.specs.Limits.{HasTypes}
 use Rattle.shelf_formed.specs.Formed.{wellFormed}
 use Rattle.shelf_formed.proofs.ElementPut.{length-formed}
 use Rattle.page.specs.Slots.{slotsOf, slotPlace}
-use Rattle.page.specs.Header.{shelfTested, pageTested, lengthSaid, generationOn, generationOf, sizeTested, codeTested, saidTested, framed, lengthTested, generationTested, headed, headOf, headOfPut, header, headPut}
+use Rattle.page.specs.Header.{shelfTested, pageTested, lengthSaid, generationOn, generationOf, sizeTested, codeTested, givenTested, saidTested, framed, lengthTested, generationTested, headed, headOf, headOfPut, header, headPut}
 
 -- the frame
 module _ (p : List ℕ) (code : ℕ) where
@@ -30,7 +30,7 @@ module _ (p : List ℕ) (code : ℕ) where
   named = next (codeTested p code) (saidTested p)
 
   pub frame-passed : leb 4 (length p) ≡ true → eqb (getD p 0 0) code ≡ true → lengthSaid p ≡ true → Accepted ≡ framed p code
-  unfolding framed sizeTested codeTested saidTested
+  unfolding framed sizeTested codeTested saidTested lengthSaid
   frame-passed l e t = rw (l, e, t)
 
   module _ {a : Answer} (h : a ≡ sizeTested p) where
@@ -48,8 +48,8 @@ module _ (p : List ℕ) (code : ℕ) where
         unfolding framed
         other-code v = gone-on (sizeTested p) named h u (stopped (codeTested p code) (saidTested p) k v)
 
-        pub said-last : {d : Answer} → b ≡ Accepted → d ≡ saidTested p → d ≡ framed p code
-        unfolding framed
+        pub said-last : {d : Answer} → b ≡ Accepted → d ≡ givenTested p (length p) → d ≡ framed p code
+        unfolding framed saidTested
         said-last v q = gone-on (sizeTested p) named h u (gone-on (codeTested p code) (saidTested p) k v q)
 
 -- the length that the type list needs

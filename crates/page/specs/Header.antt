@@ -22,9 +22,13 @@ shelfTested s = unless (wellFormed s) ShelfNotWellFormed Accepted
 abbrev pub configurationTested : List ℕ → Answer
 configurationTested c = unless (configurationFormed c) ShelfNotWellFormed Accepted
 
--- the bytes given are page length + 4
+-- n is page length + 4
+abbrev pub says : List ℕ → ℕ → Bool
+says p n = eqb n (big (twoAt p 2) + 4)
+
+-- the bytes given are as many
 unfoldable pub lengthSaid : List ℕ → Bool
-lengthSaid p = eqb (length p) (big (twoAt p 2) + 4)
+lengthSaid p = says p (length p)
 
 -- the generation code, on a page and in a configuration
 abbrev pub generationOn : List ℕ → ℕ
@@ -41,9 +45,12 @@ sizeTested p = unless (leb 4 (length p)) PageTooShort Accepted
 unfoldable pub codeTested : List ℕ → ℕ → Answer
 codeTested p code = unless (eqb (getD p 0 0) code) PageCode Accepted
 
--- 4: the bytes given are not page length + 4
+-- 4: the n bytes given are not page length + 4
+abbrev pub givenTested : List ℕ → ℕ → Answer
+givenTested p n = unless (says p n) PageLength Accepted
+
 unfoldable pub saidTested : List ℕ → Answer
-saidTested p = unless (lengthSaid p) PageLength Accepted
+saidTested p = givenTested p (length p)
 
 -- 2 to 4: the frame of any page
 unfoldable pub framed : List ℕ → ℕ → Answer

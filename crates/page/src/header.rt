@@ -7,9 +7,9 @@ ghost use mathlib.Core.Path.{_≡_};
 ghost use Prim.Native.Nat.{_≤_};
 ghost use lib.ListN.{length};
 ghost use Rattle.shelf.specs.Limits.{HasTypes};
-ghost use Rattle.page.specs.Header.{sizeTested, codeTested, saidTested, framed, lengthTested, generationTested, headed, headOfPut, headPut};
+ghost use Rattle.page.specs.Header.{sizeTested, codeTested, givenTested, framed, lengthTested, generationTested, headed, headOfPut, headPut};
 
-fn test_size(page: &[u8]) -> Answer
+pub fn test_size(page: &[u8]) -> Answer
     ensures { λ r. ⌜ r ≡ sizeTested (now (page .entry)) ⌝ }
 {
     if page.len() < 4 {
@@ -18,7 +18,7 @@ fn test_size(page: &[u8]) -> Answer
     Answer::Accepted
 }
 
-fn test_code(page: &[u8], code: u8) -> Answer
+pub fn test_code(page: &[u8], code: u8) -> Answer
     requires { ⌜ 4 ≤ length (now page) ⌝ }
     ensures { λ r. ⌜ r ≡ codeTested (now (page .entry)) code ⌝ }
 {
@@ -28,12 +28,12 @@ fn test_code(page: &[u8], code: u8) -> Answer
     Answer::Accepted
 }
 
-// The length that the page says.
-fn test_said(page: &[u8]) -> Answer
+// The length that the page says, where so many bytes are given.
+pub fn test_said(page: &[u8], given: usize) -> Answer
     requires { ⌜ 4 ≤ length (now page) ⌝ }
-    ensures { λ r. ⌜ r ≡ saidTested (now (page .entry)) ⌝ }
+    ensures { λ r. ⌜ r ≡ givenTested (now (page .entry)) given ⌝ }
 {
-    if page.len() != bits::big16_at(page, 2) as usize + 4 {
+    if given != bits::big16_at(page, 2) as usize + 4 {
         return Answer::Refused(Refusal::PageLength);
     }
     Answer::Accepted
@@ -51,7 +51,7 @@ pub fn test_frame(page: &[u8], code: u8) -> Answer
     let Answer::Accepted = named else {
         return named;
     };
-    test_said(page)
+    test_said(page, page.len())
 }
 
 // The length that the type list needs.

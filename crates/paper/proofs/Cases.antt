@@ -1,12 +1,12 @@
 -- Every case of the table holds, and so do those of the errors: antt computes what the definitions give, and it is what document 01 and the
 -- requests tell. Assumes nothing.
-use mathlib.Core.Path.{_≡_, refl, sym, ap, subst, _∙_}
+use mathlib.Core.Path.{_≡_, refl, sym, ap, ap₂, subst, _∙_}
 use mathlib.Core.Bool.{Bool, true, false, _&&_}
 use mathlib.Core.List.{List, [], _∷_, _++_}
 use Prim.Native.Nat.{ℕ, zero, suc, _+_, _*_, _<_, _≤_}
 use native.Mathlib.Omega.{arith}
 use lib.Dec.{eqb, ltb}
-use lib.ListN.{length, getD}
+use lib.ListN.{length, getD, replicate, length-append, length-replicate}
 use borrow.Author.Tests.{eqb-true, ltb-true}
 use Rattle.bits.specs.Numbers.{Bytes}
 use Rattle.bits.specs.Choice.{pick, firstOf, allBelow, offenceIn}
@@ -15,7 +15,7 @@ use Rattle.bits.specs.Places.{fourAt}
 use Rattle.bits.specs.Rows.{joined, rowStart, bytesAt}
 use Rattle.bits.specs.Texts.{sameBytes}
 use Rattle.bits.proofs.Each.{each-append}
-use Rattle.bits.proofs.Logic.{and-left, and-right, and-both}
+use Rattle.bits.proofs.Logic.{by-case, and-left, and-right, and-both, pick-yes, pick-no}
 use Rattle.bits.proofs.Rows.{bytes-whole}
 use Rattle.element.specs.Types.{kindOf, served, layoutOf, readingAllowed, nominalAllowed, had, ordered, verdictOf}
 use Rattle.element.specs.Settings.{settingsOf, settingsBytes, settingsFormed}
@@ -28,7 +28,7 @@ use Rattle.shelf.specs.Types.{typesOf, before, elementsOf, typeOf, kindAt}
 use Rattle.shelf.specs.Elements.{settingsAt, thresholdsAt, readingAt, nominalAt, spareAt}
 use Rattle.shelf_formed.specs.Formed.{headFormed, textFormed, typeFormed, typeEmpty, slotFormed, typesFormed, spareClear, elementFormed, elementsFormed, frontFormed, wellFormed, configurationFormed}
 use Rattle.page.specs.Slots.{slotsOf, startOf, slotType, isOverall, slotAt, slotPlace}
-use Rattle.page.specs.Header.{lengthSaid, sizeTested, codeTested, saidTested, framed, lengthTested, generationTested, headed, pageTested, header}
+use Rattle.page.specs.Header.{lengthSaid, givenTested, sizeTested, codeTested, saidTested, framed, lengthTested, generationTested, headed, pageTested, header}
 use Rattle.page.specs.Places.{ownSlot, placesOf}
 use Rattle.names.specs.Name.{isName, padded, equal}
 use Rattle.names.specs.Found.{foundNumber, elementFound}
@@ -39,11 +39,18 @@ use Rattle.control_page.specs.Tests.{firstAllows, bytesTested, controlTested, v
 use Rattle.control_page.proofs.FirstOffence.{slotOffending, found}
 use Rattle.control_page.specs.Brought.{settingsAfter, broughtTo}
 use Rattle.status_page.specs.Page.{slotBytes, pageWith, statusPage, shownIn}
-use Rattle.refusals.specs.declared.Refusal.the-variants.{Unreachable}
+use Rattle.threshold_page_out.specs.Tests as thresholds
+use Rattle.refusals.specs.declared.Refusal.the-variants.{PageCode, Unreachable, NeededLength}
+use Rattle.refusals.specs.declared.Answer.the-variants as answer
 use Rattle.refusals.specs.declared.Answer.the-variants.{Accepted}
 use Rattle.refusals.specs.declared.PageAnswer.{PageAnswer}
 use Rattle.refusals.specs.Numbers.{numberOf, pageNumber, pageOffset}
-use Rattle.refusals.specs.Outcomes.{offenceTested, pageNext, accepts}
+use Rattle.refusals.specs.Outcomes.{next, ofPage, offenceTested, pageNext, accepts}
+use Rattle.collector.specs.Collector.{mostKept, mostCounted, atMost, pageOf, collectedAll, emptied}
+use Rattle.collector.proofs.Held.{Holds as Collects, holds-nothing, holds-chunks, count-collected, held-alike}
+use Rattle.collected_page.specs.Meant.{otherTested, meantTested, meantCode, longTested}
+use Rattle.collected_page.proofs.Long.{long-tested}
+use Rattle.collected_page.proofs.NotKept.{front-decides}
 use Rattle.build_order.specs.Search.{cost, better, best}
 use Rattle.build_element.specs.Wishes.{inReach, alike, requestBytes, own, brings, one}
 use Rattle.build_element.specs.Parts.{tried, tries}
@@ -53,7 +60,7 @@ use Rattle.build_page.specs.Page.{searchIn, overallIn, rowUnder, rowFor, select
 use Rattle.build_page.proofs.FirstPage.{made-selects}
 use Rattle.build_page.proofs.PromiseKept.{none-reaches, page-promised}
 use Rattle.build_page.proofs.PromiseLaws.{wish-taken, selects-needed}
-use Rattle.paper.specs.Table.{Case, shows, judges, tells, builds, reaches, refuses, answers, describes, finds, reads, limits, none, typesA, frontA, shelfA, OfA, middleNamed, OfNamed, HasStatus, Gets, ReachedBy, RefusedBy, Answers, HasNames, Finds, ReadsNames, Holds, AllHold, stoppedFans, table}
+use Rattle.paper.specs.Table.{Case, shows, judges, tells, builds, reaches, refuses, answers, describes, finds, reads, counts, ends, limits, none, typesA, frontA, shelfA, OfA, middleNamed, OfNamed, HasStatus, Gets, ReachedBy, RefusedBy, Answers, HasNames, Finds, ReadsNames, EndsBy, Holds, AllHold, stoppedFans, fromTheBus, table}
 use Rattle.paper.specs.Errors.{errors}
 use Rattle.paper.proofs.NamesOfA.{readRest, read-so, middleName, standing, described-so, foundSo, found-so}
 
@@ -65,6 +72,10 @@ allBytes (b ∷ bs) = ltb b 256 && allBytes bs
 pub are-bytes : (l : List ℕ) → allBytes l ≡ true → Bytes l
 are-bytes [] t = tt
 are-bytes (b ∷ bs) t = (ltb-true b 256 (and-left _ _ t), are-bytes bs (and-right (ltb b 256) _ t))
+
+zeros : (n : ℕ) → Bytes (replicate n 0)
+zeros zero = tt
+zeros (suc n) = (omega arith, zeros n)
 
 -- A with any identification i and any names m, of which each byte stands by itself: so the definitions compute
 abbrev anyA : List ℕ → List ℕ → List ℕ → List ℕ
@@ -85,6 +96,15 @@ wishRest s w = eqb (length w) (4 * elementsOf s) && allBelow (mayBe s w) (elemen
 abbrev pageRest : List ℕ → List ℕ → PageAnswer
 pageRest s p =
     pageNext (headed s p 0x02 (slotsOf s)) (offenceTested (pick (firstAllows p) (offenceIn slotPlace (slotOffending s p) (slotsOf s)) 1) (slotPlace (slotsOf s)) Accepted)
+
+-- of a page of which a code is meant, by the bytes x and z zeros behind them: one longer than the largest by its first bytes and its length
+abbrev meantRest : List ℕ → List ℕ → ℕ → ℕ → PageAnswer
+meantRest s x z code =
+    let p = x ++ replicate z 0 in
+    pick (ltb mostKept (length x + z)) (ofPage (next (meantCode p code) (next (givenTested p (length x + z)) (answer.Refused NeededLength))))
+    (pick (eqb code 0x02) (pageRest s p)
+    (pick (eqb code 0x05) (thresholds.thresholdsTested s p)
+    (ofPage (next (sizeTested p) (answer.Refused PageCode)))))
 
 -- the page that is made, where o is the overall element of its one type: so that is searched once, and not for each slot
 abbrev pageUnder : List ℕ → List ℕ → List ℕ → List ℕ
@@ -121,6 +141,10 @@ given i m (finds f x y j) =
 given i m (reads p n k) =
     let c = frontA (bytesAt i 0 36) in
     (pageNumber (readRest c p) ∷ pageOffset (readRest c p) ∷ []) ∷ []
+given i m (counts n l k) = (atMost (n + l) mostCounted ∷ []) ∷ []
+given i m (ends f x z code n k) =
+    let s = anyA i m f in
+    (num (shelfRest s) ∷ num (allBytes x) ∷ pageNumber (meantRest s x z code) ∷ pageOffset (meantRest s x z code) ∷ []) ∷ []
 
 -- and what document 01 tells, or the request
 told : Case → List (List ℕ)
@@ -134,6 +158,8 @@ told (answers f p n k) = (1 ∷ n ∷ k ∷ []) ∷ []
 told (describes f x p) = (1 ∷ 1 ∷ []) ∷ p ∷ []
 told (finds f x y j) = (1 ∷ 1 ∷ 0 ∷ j ∷ []) ∷ []
 told (reads p n k) = (n ∷ k ∷ []) ∷ []
+told (counts n l k) = (k ∷ []) ∷ []
+told (ends f x z code n k) = (1 ∷ 1 ∷ n ∷ k ∷ []) ∷ []
 
 yes : (b : Bool) → num b ≡ 1 → b ≡ true
 yes true h = refl
@@ -239,6 +265,41 @@ module _ (i m f : List ℕ) where
       let a = answered p (yes (shelfRest s) (number 0 e)) in
       (ap pageNumber a ∙ number 1 e, ap pageOffset a ∙ number 2 e)
 
+  -- a page of which a code is meant
+  module _ (x : List ℕ) (z : ℕ) where
+    abbrev q : List ℕ
+    q = x ++ replicate z 0
+
+    length-q : length q ≡ length x + z
+    length-q = length-append x (replicate z 0) ∙ ap (λ (n : ℕ). length x + n) (length-replicate z 0)
+
+    meant : (code : ℕ) → shelfRest s ≡ true → meantTested code s q ≡ meantRest s x z code
+    unfolding longTested otherTested
+    meant code t =
+        by-case (ltb mostKept (length x + z))
+        (λ e.
+        let l = ltb-true mostKept (length x + z) e in
+        long-tested s q (omega (arith, length-q, l)) code
+        ∙ ap (λ (n : ℕ). ofPage (longTested s q n code)) length-q
+        ∙ rw (well-formed t) (sym (pick-yes _ _ _ e)))
+        (λ e.
+        by-case (eqb code 0x02)
+        (λ a. pick-yes _ _ _ a ∙ answered q t ∙ sym (pick-no _ _ _ e ∙ pick-yes _ _ _ a))
+        (λ a.
+        pick-no _ _ _ a
+        ∙ by-case (eqb code 0x05)
+        (λ b. pick-yes _ _ _ b ∙ sym (pick-no _ _ _ e ∙ pick-no _ _ _ a ∙ pick-yes _ _ _ b))
+        (λ b. pick-no _ _ _ b ∙ rw (well-formed t) (sym (pick-no _ _ _ e ∙ pick-no _ _ _ a ∙ pick-no _ _ _ b)))))
+
+    ends-so : (code n k : ℕ) → given i m (ends f x z code n k) ≡ told (ends f x z code n k) → EndsBy q code n k s
+    unfolding given told
+    ends-so code n k e c xs h j =
+        let d = collectedAll (emptied c) xs in
+        let held : Collects d q = subst (Collects d) j (holds-chunks xs (emptied c) [] (holds-nothing c h)) in
+        let bytes = each-append (λ b. b < 256) x (replicate z 0) (are-bytes x (yes (allBytes x) (number 1 e))) (zeros z) in
+        let a = sym (front-decides s q (pageOf d) bytes (held-alike d q held) code .0) ∙ meant code (yes (shelfRest s) (number 0 e)) in
+        (ap pageNumber a ∙ number 2 e, ap pageOffset a ∙ number 3 e)
+
   module _ (w : List ℕ) where
     taken : shelfRest s ≡ true → wishRest s w ≡ true → wishTested s w ≡ Accepted
     taken t u = wish-taken s w (well-formed t) (eqb-true _ _ (and-left _ _ u)) (and-right (eqb (length w) (4 * elementsOf s)) _ u)
@@ -306,6 +367,8 @@ holds (refuses f w n) e = of-A f (RefusedBy w n) (λ i m h l. refused i m f w n 
 holds (answers f p n k) e = of-A f (Answers p n k) (λ i m h l. answers-so i m f p n k (e i m))
 holds (describes f x p) e = of-named f x (HasNames p) (λ i. describes-so i f x p (e i []))
 holds (finds f x y j) e = of-named f x (Finds y j) (λ i. finds-so i f x y j (e i []))
+holds (counts n l k) e = λ c x h a b. count-collected c x h ∙ ap₂ (λ (u v : ℕ). atMost (u + v) mostCounted) a b ∙ number 0 (e [] [])
+holds (ends f x z code n k) e = of-A f (EndsBy (x ++ replicate z 0) code n k) (λ i m h l. ends-so i m f x z code n k (e i m))
 holds (reads p n k) e = λ i l. subst (λ (y : List ℕ). ReadsNames p n k (frontA y)) (bytes-whole i 36 l) (reads-so i p n k (e i []))
 
 -- the two agree on each of the cases
@@ -333,6 +396,20 @@ unfolding settingsOf settingsBytes controlOf reservedIn offending chosen settled
     tried tries cost better best overallIn rowUnder reachable bytesAt given told
 computed-stopped i m = refl also refl also refl also refl also refl also refl also refl also refl also end
 
+-- those of request Four by themselves, so that antt holds less at a time
+computed-bus : (i m : List ℕ) → Agree i m fromTheBus
+unfolding settingsFormed kindOf layoutOf readingAllowed nominalAllowed had ordered before elementsOf typeOf kindAt settingsAt thresholdsAt
+    readingAt nominalAt spareAt spareClear elementFormed elementsFormed controlOf reservedIn offending slotsOf startOf slotType isOverall
+    slotAt firstOf lengthSaid sizeTested codeTested saidTested framed lengthTested generationTested headed slotOffending meantCode bytesAt
+    given told
+computed-bus i m =
+    refl also refl also refl also refl also refl also refl also refl also refl also refl also refl also refl also refl
+    also refl also refl also refl also refl also refl also refl also refl also end
+
+both : {i m : List ℕ} {cs ds : List Case} → Agree i m cs → Agree i m ds → Agree i m (cs ++ ds)
+both end l = l
+both (e also k) l = e also both k l
+
 computed : (i m : List ℕ) → Agree i m table
 unfolding settingsOf settingsBytes controlOf reservedIn offending chosen settled over under verdictOf entryBy shownBy statusBytes kindOf
     layoutOf readingAllowed nominalAllowed settingsFormed had ordered before elementsOf typeOf kindAt settingsAt thresholdsAt readingAt
@@ -345,7 +422,7 @@ computed i m =
     refl also refl also refl also refl also refl also refl also refl also refl also refl also refl also refl also refl
     also refl also refl also refl also refl also refl also refl also refl also refl also refl also refl also refl also refl
     also refl also refl also refl also refl also refl also refl also refl also refl also refl also refl also refl
-    also refl also refl also refl also refl also refl also refl also refl also computed-stopped i m
+    also refl also refl also refl also refl also refl also refl also refl also both (computed-stopped i m) (computed-bus i m)
 
 -- apart from the table, so that antt holds less at a time
 computed-errors : (i m : List ℕ) → Agree i m errors

@@ -1,4 +1,4 @@
--- The cases that document 01 marks M, and those of requests One, Two and Three. Assumes nothing.
+-- The cases that document 01 marks M, and those of requests One to Four. Assumes nothing.
 use mathlib.Core.Path.{_≡_}
 use mathlib.Core.Bool.{true}
 use mathlib.Core.List.{List, [], _∷_, _++_}
@@ -21,6 +21,8 @@ use Rattle.names.specs.Found.{found, foundNumber, elementFound}
 use Rattle.descriptor_page.specs.Page.{namesPage}
 use Rattle.descriptor_record.specs.Read.{namesRead}
 use Rattle.status_page.specs.Page.{statusPage}
+use Rattle.collector.specs.Collector.{HasRoom, countOf, pageOf, collected, collectedAll, joinedAll, emptied}
+use Rattle.collected_page.specs.Meant.{meantTested}
 use Rattle.build_page.specs.declared.built.Built.{Built}
 use Rattle.build_page.specs.Outcome.{builtNumber, builtOf, leftBy}
 use Rattle.build_page.specs.Promise.{selectsOn, Reaching, Promised}
@@ -46,6 +48,11 @@ pub data Case : Type 0 where
   finds : List ℕ → List ℕ → List ℕ → ℕ → Case
   -- a page of names, read with A's configuration, is answered by this number and this offset
   reads : List ℕ → ℕ → ℕ → Case
+  -- a collector that counts so many bytes counts so many after a chunk of this length
+  counts : ℕ → ℕ → ℕ → Case
+  -- A with these fans: where these bytes and so many zeros behind them were put, the end of the page, with this code meant, is answered by this number
+  -- and this offset
+  ends : List ℕ → List ℕ → ℕ → ℕ → ℕ → ℕ → Case
 
 abbrev pub limits : Verdict → List ℕ
 limits v = v .code ∷ num (v .highcrit) ∷ num (v .highwarn) ∷ num (v .lowwarn) ∷ num (v .lowcrit) ∷ []
@@ -114,6 +121,17 @@ Finds x j s = (foundNumber (found s x) ≡ 0) × (elementFound (found s x) ≡ j
 abbrev pub ReadsNames : List ℕ → ℕ → ℕ → List ℕ → Type 0
 ReadsNames p n k c = (pageNumber (namesRead c p) ≡ n) × (pageOffset (namesRead c p) ≡ k)
 
+-- whatever else the collector holds
+abbrev pub Counts : ℕ → ℕ → ℕ → Type 0
+Counts n l m = (c x : List ℕ) → HasRoom c → countOf c ≡ n → length x ≡ l → countOf (collected c x) ≡ m
+
+-- however the bytes p are cut into chunks, and whatever the collector held before it was made empty: the answer at the end is the number n and the offset k
+abbrev pub EndsBy : List ℕ → ℕ → ℕ → ℕ → List ℕ → Type 0
+EndsBy p code n k s =
+    (c : List ℕ) (xs : List (List ℕ)) → HasRoom c → joinedAll xs ≡ p
+    → (pageNumber (meantTested code s (pageOf (collectedAll (emptied c) xs))) ≡ n)
+    × (pageOffset (meantTested code s (pageOf (collectedAll (emptied c) xs))) ≡ k)
+
 abbrev pub Holds : Case → Type 0
 Holds (shows k s r n t b) = statusBytes k (shownBy k (settingsOf k s) r n t) ≡ b
 Holds (judges k r n t v) = limits (verdictOf k (settingsOf k none) r n t) ≡ v
@@ -125,6 +143,8 @@ Holds (answers f p n k) = OfA f (Answers p n k)
 Holds (describes f x p) = OfNamed f x (HasNames p)
 Holds (finds f x y j) = OfNamed f x (Finds y j)
 Holds (reads p n k) = (identification : List ℕ) → length identification ≡ 36 → ReadsNames p n k (frontA identification)
+Holds (counts n l m) = Counts n l m
+Holds (ends f x z code n k) = OfA f (EndsBy (x ++ replicate z 0) code n k)
 
 abbrev pub AllHold : List Case → Type 0
 AllHold [] = Unit {0}
@@ -233,6 +253,39 @@ abbrev described : ℕ → ℕ → List ℕ → List ℕ
 described l n x =
     (0x07 ∷ 0x00 ∷ 0x00 ∷ l ∷ 0x00 ∷ 0x00 ∷ 0x00 ∷ 0x07 ∷ []) ++ silent ++ silent ++ ((0x00 ∷ 0x00 ∷ 0x00 ∷ n ∷ []) ++ x) ++ silent
 
+-- request Four: the header of a control page of generation 7, with this length in two bytes
+abbrev saying : ℕ → ℕ → List ℕ
+saying h l = 0x02 ∷ 0x00 ∷ h ∷ l ∷ 0x00 ∷ 0x00 ∷ 0x00 ∷ 0x07 ∷ []
+
+abbrev pub fromTheBus : List Case
+fromTheBus =
+    -- a chunk without bytes; one that passes the largest page; the count stops at 65,540
+    counts 24 0 24
+    ∷ counts 290 10 300
+    ∷ counts 65539 0 65539
+    ∷ counts 65539 1 65540
+    ∷ counts 65540 1 65540
+    ∷ counts 0 70000 65540
+    -- SPEED 5 for all is accepted, where the page meant is 02h; where another is meant: 3; no bytes at all: 2
+    ∷ ends fansA (control requests silent silent silent) 0 0x02 0 0
+    ∷ ends fansA (control requests silent silent silent) 0 0x07 3 0
+    ∷ ends fansA [] 0 0x02 2 0
+    ∷ ends fansA [] 0 0x07 2 0
+    -- a reserved bit: 6, where it stands; a byte more than it says: 4
+    ∷ ends fansA (control silent silent (0x88 ∷ 0x00 ∷ 0x00 ∷ 0x20 ∷ []) silent) 0 0x02 6 16
+    ∷ ends fansA (control requests silent silent silent) 1 0x02 4 0
+    -- 297 bytes that say so: 12; 296 that say 297: 4
+    ∷ ends fansA (saying 0x01 0x25) 289 0x02 12 0
+    ∷ ends fansA (saying 0x01 0x25) 288 0x02 4 0
+    -- FFFFh says 65,539 bytes: 12 for as many, 4 for one more and for any more
+    ∷ ends fansA (saying 0xff 0xff) 65531 0x02 12 0
+    ∷ ends fansA (saying 0xff 0xff) 65532 0x02 4 0
+    ∷ ends fansA (saying 0xff 0xff) 131067 0x02 4 0
+    -- the same with another code on the page, or meant: 3
+    ∷ ends fansA (saying 0xff 0xff) 65532 0x05 3 0
+    ∷ ends fansA (saying 0xff 0xff) 65532 0x07 3 0
+    ∷ []
+
 abbrev pub table : List Case
 table =
     -- A's status, whole
@@ -317,5 +370,5 @@ table =
     ∷ reads (described 0x16 0x02 (0x20 ∷ 0x7e ∷ [])) 0 0
     ∷ reads (described 0x16 0x02 (0x1f ∷ 0x7e ∷ [])) 6 20
     ∷ reads (described 0x16 0x02 (0x20 ∷ 0x7f ∷ [])) 6 21
-    -- request Three
-    ∷ stoppedFans
+    -- requests Three and Four
+    ∷ (stoppedFans ++ fromTheBus)

@@ -28,7 +28,8 @@ use Rattle.threshold_page_out.specs.Tests as thresholdTests
 use Rattle.threshold_page_out.specs.Exactly as thresholds
 use Rattle.threshold_page_out.proofs.Exactly as thresholdProofs
 use Rattle.threshold_page_out.proofs.Changes as thresholdChanges
-use Rattle.promises.specs.Promises.{ApplyControl, ApplyThresholds, SetName, SetOverallName}
+use Rattle.collector.specs.Collector.{pageOf}
+use Rattle.promises.specs.Promises.{ApplyControl, ApplyThresholds, EndPage, SetName, SetOverallName}
 
 pub control-exactly : (s p : List ℕ) {r : PageAnswer} {o : List ℕ} → ApplyControl s p r o → r ≡ Accepted → control.Exactly s p o
 unfolding controlTests.valid
@@ -37,6 +38,13 @@ control-exactly s p h e = rw (h .1) (controlProofs.exactly s p (ap accepts (sym 
 pub thresholds-exactly : (s p : List ℕ) {r : PageAnswer} {o : List ℕ} → ApplyThresholds s p r o → r ≡ Accepted → thresholds.Exactly s p o
 unfolding thresholdTests.valid
 thresholds-exactly s p h e = rw (h .1) (thresholdProofs.exactly s p (ap accepts (sym (h .0) ∙ e)))
+
+-- and so does a page that was collected
+pub ended-control-exactly : (c s : List ℕ) {r : PageAnswer} {d o : List ℕ} → EndPage c s 0x02 r d o → r ≡ Accepted → control.Exactly s (pageOf c) o
+ended-control-exactly c s h e = control-exactly s (pageOf c) (h .0) e
+
+pub ended-thresholds-exactly : (c s : List ℕ) {r : PageAnswer} {d o : List ℕ} → EndPage c s 0x05 r d o → r ≡ Accepted → thresholds.Exactly s (pageOf c) o
+ended-thresholds-exactly c s h e = thresholds-exactly s (pageOf c) (h .0) e
 
 -- bytes from k on are as they were, where each that is not is one before k
 kept-from : (s x : List ℕ) (k : ℕ) (Changed : ℕ → Type 0) → ((q : ℕ) → Changed q → q < k) → ((q : ℕ) → (getD x q 0 ≡ getD s q 0) ⊎ Changed q)

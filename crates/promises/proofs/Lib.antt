@@ -1,4 +1,5 @@
 pub mod NoTwoOutcomes
+pub mod Bus
 pub mod RefusedKeeps
 pub mod Exactly
 pub mod StatusRewritten

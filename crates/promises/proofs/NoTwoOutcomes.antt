@@ -8,12 +8,13 @@ use Rattle.refusals.specs.declared.Written.{Written}
 use Rattle.refusals.specs.Numbers.{answerNumber, pageNumber, pageOffset, writtenNumber, bytesWritten}
 use Rattle.names.specs.declared.finding.Found.{Found}
 use Rattle.names.specs.Found.{foundNumber, elementFound}
+use Rattle.collector.specs.Collector.{pageOf}
 use Rattle.build_page.specs.declared.built.Built.{Built}
 use Rattle.build_page.specs.Outcome.{builtNumber, bytesBuilt, selectsBuilt}
 use Rattle.build_page.proofs.PromiseKept.{settles}
-use Rattle.promises.specs.Promises.{Check, WriteConfiguration, WriteStatus, WriteThresholds, WriteDescriptors, ReadConfiguration, ReadStatus, ReadThresholds, ReadDescriptors, RewriteConfiguration, RewriteStatus, RewriteThresholds, RewriteDescriptors, ApplyControl, ApplyThresholds, BuildControl, FindName, SetName, SetOverallName}
-use Rattle.promises.specs.PromisesForC.{Numbered, NumberedPage, NumberedWritten, NumberedBuilt, CheckForC, WriteConfigurationForC, WriteStatusForC, WriteThresholdsForC, WriteDescriptorsForC, ReadConfigurationForC, ReadStatusForC, ReadThresholdsForC, ReadDescriptorsForC, RewriteConfigurationForC, RewriteStatusForC, RewriteThresholdsForC, RewriteDescriptorsForC, ApplyControlForC, ApplyThresholdsForC, BuildControlForC, FindNameForC, SetNameForC, SetOverallNameForC}
-use Rattle.promises.specs.Settled.{OneAnswer, OneOutcome, OneTold, OneBuilt, OneFound}
+use Rattle.promises.specs.Promises.{Check, WriteConfiguration, WriteStatus, WriteThresholds, WriteDescriptors, ReadConfiguration, ReadStatus, ReadThresholds, ReadDescriptors, RewriteConfiguration, RewriteStatus, RewriteThresholds, RewriteDescriptors, ApplyControl, ApplyThresholds, EmptyCollector, PutChunk, Meant, EndPage, BuildControl, FindName, SetName, SetOverallName}
+use Rattle.promises.specs.PromisesForC.{Numbered, NumberedPage, NumberedWritten, NumberedBuilt, CheckForC, WriteConfigurationForC, WriteStatusForC, WriteThresholdsForC, WriteDescriptorsForC, ReadConfigurationForC, ReadStatusForC, ReadThresholdsForC, ReadDescriptorsForC, RewriteConfigurationForC, RewriteStatusForC, RewriteThresholdsForC, RewriteDescriptorsForC, ApplyControlForC, ApplyThresholdsForC, EmptyCollectorForC, PutChunkForC, EndPageForC, BuildControlForC, FindNameForC, SetNameForC, SetOverallNameForC}
+use Rattle.promises.specs.Settled.{OneAnswer, OneOutcome, OneTold, OneBuilt, OneFound, OneBoth, OneBothTold}
 
 -- an answer that is told, and memory that follows from it
 told : {R : Type 0} (a : R) (f : R → List ℕ) → OneOutcome (λ (r : R) (o : List ℕ). (r ≡ a) × (o ≡ f r))
@@ -92,6 +93,20 @@ apply-control shelf page = told _ _
 pub apply-thresholds : (shelf page : List ℕ) → OneOutcome (ApplyThresholds shelf page)
 apply-thresholds shelf page = told _ _
 
+pub empty-collector : (collector : List ℕ) → OneAnswer (EmptyCollector collector)
+empty-collector collector r q h l = h ∙ sym l
+
+pub put-chunk : (collector chunk : List ℕ) → OneAnswer (PutChunk collector chunk)
+put-chunk collector chunk r q h l = h ∙ sym l
+
+pub meant : (code : ℕ) (shelf page : List ℕ) → OneOutcome (Meant code shelf page)
+meant code shelf page = told _ _
+
+pub end-page : (collector shelf : List ℕ) (code : ℕ) → OneBoth (EndPage collector shelf code)
+end-page collector shelf code r q b c y z h l =
+    let e = meant code shelf (pageOf collector) r q y z (h .0) (l .0) in
+    (e .0, h .1 ∙ sym (l .1), e .1)
+
 pub build-control : (shelf wanted out : List ℕ) → OneOutcome (BuildControl shelf wanted out)
 build-control shelf wanted out = settles shelf wanted out
 
@@ -150,6 +165,17 @@ ses-apply-control shelf page = numbered-page (apply-control shelf page)
 
 pub ses-apply-thresholds : (shelf page : List ℕ) → OneTold (ApplyThresholdsForC shelf page)
 ses-apply-thresholds shelf page = numbered-page (apply-thresholds shelf page)
+
+pub ses-empty-collector : (collector : List ℕ) → OneAnswer (EmptyCollectorForC collector)
+ses-empty-collector collector = empty-collector collector
+
+pub ses-put-chunk : (collector chunk : List ℕ) → OneAnswer (PutChunkForC collector chunk)
+ses-put-chunk collector chunk = put-chunk collector chunk
+
+pub ses-end-page : (collector shelf : List ℕ) (code : ℕ) → OneBothTold (EndPageForC collector shelf code)
+ses-end-page collector shelf code n m b c y z j k h l =
+    let e = end-page collector shelf code (h .0) (l .0) b c y z (h .1) (l .1) in
+    (h .2 ∙ ap pageNumber (e .0) ∙ sym (l .2), e .1, e .2, h .3 ∙ ap pageOffset (e .0) ∙ sym (l .3))
 
 pub ses-build-control : (shelf wanted out : List ℕ) → OneBuilt (BuildControlForC shelf wanted out)
 ses-build-control shelf wanted out = numbered-built (build-control shelf wanted out)

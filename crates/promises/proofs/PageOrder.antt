@@ -1,4 +1,4 @@
--- Each of the six pages is answered by the one order of tests. Assumes nothing.
+-- Each of the six pages is answered by the one order of tests, and so is a page by the code meant. Assumes nothing.
 use mathlib.Core.Path.{_≡_, refl, sym, ap, _∙_}
 use mathlib.Core.Bool.{Bool, true, false}
 use mathlib.Core.List.{List}
@@ -21,7 +21,8 @@ use Rattle.threshold_rows.specs.Rows as rows
 use Rattle.threshold_record.specs.Read as limits
 use Rattle.control_page.specs.Tests as control
 use Rattle.threshold_page_out.specs.Tests as thresholds
-use Rattle.promises.specs.Order.{ownOrder, order, inOrder, configurationTests, descriptorTests, statusTests, limitTests, controlTests, takenTests}
+use Rattle.collected_page.specs.Meant.{otherTested, meantTested}
+use Rattle.promises.specs.Order.{ownOrder, order, inOrder, configurationTests, descriptorTests, statusTests, limitTests, controlTests, takenTests, otherTests, meantTests}
 
 -- the stages of the header, as a list of tests
 headStages : Bool → Bool → Bool → Bool → Bool → Answer
@@ -75,18 +76,18 @@ module _ (c p : List ℕ) (code : ℕ) (own : PageAnswer) where
   generation = eqb (generationOn p) (generationOf c)
 
   shelf-order : pageNext (pageTested c p code) own ≡ order (wellFormed c) size coded (lengthSaid p) needed generation own
-  unfolding pageTested headed framed sizeTested codeTested saidTested lengthTested generationTested headStages
+  unfolding pageTested headed framed sizeTested codeTested saidTested lengthSaid lengthTested generationTested headStages
   shelf-order =
       let h = headStages size coded (lengthSaid p) needed generation in
       join (unless (wellFormed c) ShelfNotWellFormed Accepted) h own ∙ all-order (wellFormed c) size coded (lengthSaid p) needed generation own
 
   page-order : pageNext (configurationTested c) (pageNext (headed c p code (slotsOf c)) own)
       ≡ order (configurationFormed c) size coded (lengthSaid p) needed generation own
-  unfolding headed framed sizeTested codeTested saidTested lengthTested generationTested headStages
+  unfolding headed framed sizeTested codeTested saidTested lengthSaid lengthTested generationTested headStages
   page-order = all-order (configurationFormed c) size coded (lengthSaid p) needed generation own
 
 pub configuration-order : (p : List ℕ) → configuration.configurationRead p ≡ inOrder (configurationTests p)
-unfolding configuration.configurationRead configuration.bytesTested configuration.firstOffence framed sizeTested codeTested saidTested lengthTested headStages
+unfolding configuration.configurationRead configuration.bytesTested configuration.firstOffence framed sizeTested codeTested saidTested lengthSaid lengthTested headStages
 configuration-order p =
     let k = firstBelow (configuration.offends p) (length p) in
     let said = lengthSaid p in
@@ -103,7 +104,7 @@ configuration-order p =
     last false = refl
 
 pub descriptor-order : (c p : List ℕ) → names.namesRead c p ≡ inOrder (descriptorTests c p)
-unfolding names.namesRead names.pageTested names.headTested names.bytesTested framed sizeTested codeTested saidTested lengthTested generationTested headStages
+unfolding names.namesRead names.pageTested names.headTested names.bytesTested framed sizeTested codeTested saidTested lengthSaid lengthTested generationTested headStages
 descriptor-order c p =
     let n = slotsOf c in
     let e = names.placeOn p n in
@@ -143,3 +144,23 @@ taken-order s p =
     let o = thresholds.allOrdered s p in
     ap (pageNext (pageTested s p 0x05)) (own-order (firstBelow (rows.byteOffends p) e) e h o)
     ∙ shelf-order s p 0x05 (ownOrder (firstBelow (rows.byteOffends p) e) e h o)
+
+-- and the page that a code means
+other-order : (s p : List ℕ) → ofPage (otherTested s p) ≡ inOrder (otherTests s p)
+unfolding otherTested sizeTested
+other-order s p = go (wellFormed s) (leb 4 (length p))
+  where
+    go : (a b : Bool) → ofPage (next (unless a ShelfNotWellFormed Accepted) (next (unless b PageTooShort Accepted) (Refused PageCode)))
+        ≡ pick a (pick b (ofPage (Refused PageCode)) (ofPage (Refused PageTooShort))) (ofPage (Refused ShelfNotWellFormed))
+    go true true = refl
+    go true false = refl
+    go false b = refl
+
+pub meant-order : (code : ℕ) (s p : List ℕ) → meantTested code s p ≡ inOrder (meantTests code s p)
+meant-order code s p = go (eqb code 0x02) (eqb code 0x05)
+  where
+    go : (a b : Bool) → pick a (control.controlTested s p) (pick b (thresholds.thresholdsTested s p) (ofPage (otherTested s p)))
+        ≡ inOrder (pick a (controlTests s p) (pick b (takenTests s p) (otherTests s p)))
+    go true b = control-order s p
+    go false true = taken-order s p
+    go false false = other-order s p

@@ -1,10 +1,11 @@
 -- A refusal leaves what was lent as it was: a theorem for each public call that is lent something to be changed, under its name, in Rattle
 -- and for C; a refused search tells C no element. Assumes nothing.
 use mathlib.Core.Path.{_≡_, refl, sym, ap, _∙_}
-use mathlib.Core.Bool.{Bool, false}
+use mathlib.Core.Bool.{Bool, true, false}
 use mathlib.Core.List.{List}
 use mathlib.Core.Logic.{inl, inr}
 use Prim.Native.Nat.{ℕ}
+use lib.Dec.{eqb}
 use Rattle.bits.specs.Choice.{pick}
 use Rattle.refusals.specs.declared.Answer.{Answer}
 use Rattle.refusals.specs.declared.Answer.the-variants as answer
@@ -13,7 +14,7 @@ use Rattle.refusals.specs.declared.PageAnswer.the-variants as told
 use Rattle.refusals.specs.declared.Written.{Written}
 use Rattle.refusals.specs.declared.Written.the-variants as written
 use Rattle.refusals.specs.Numbers.{answerNumber, pageNumber, writtenNumber, bytesWritten}
-use Rattle.refusals.specs.Outcomes.{accepts, Changes}
+use Rattle.refusals.specs.Outcomes.{ofPage, accepts, Changes}
 use Rattle.shelf.specs.SettingsList.{withSettings}
 use Rattle.page.specs.Slots.{startOf}
 use Rattle.page.specs.Places.{ownSlot}
@@ -25,12 +26,14 @@ use Rattle.control_page.specs.Tests as control
 use Rattle.control_page.specs.Brought as controlled
 use Rattle.threshold_page_out.specs.Taken.{takenFrom, withThresholds}
 use Rattle.threshold_page_out.specs.Tests as thresholds
+use Rattle.collector.specs.Collector.{pageOf}
+use Rattle.collected_page.specs.Meant.{otherTested}
 use Rattle.build_page.specs.declared.built.Built.{Built}
 use Rattle.build_page.specs.declared.built.Built.the-variants as built
 use Rattle.build_page.specs.Outcome.{builtNumber, bytesBuilt, selectsBuilt}
 use Rattle.build_page.specs.Promise.{wishTested, Answered, Passed}
-use Rattle.promises.specs.Promises.{WriteConfiguration, WriteStatus, WriteThresholds, WriteDescriptors, ReadConfiguration, ReadStatus, ReadThresholds, ReadDescriptors, RewriteConfiguration, RewriteStatus, RewriteThresholds, RewriteDescriptors, ApplyControl, ApplyThresholds, BuildControl, SetName, SetOverallName}
-use Rattle.promises.specs.PromisesForC.{Numbered, NumberedPage, NumberedWritten, NumberedBuilt, WriteConfigurationForC, WriteStatusForC, WriteThresholdsForC, WriteDescriptorsForC, ReadConfigurationForC, ReadStatusForC, ReadThresholdsForC, ReadDescriptorsForC, RewriteConfigurationForC, RewriteStatusForC, RewriteThresholdsForC, RewriteDescriptorsForC, ApplyControlForC, ApplyThresholdsForC, BuildControlForC, FindNameForC, SetNameForC, SetOverallNameForC}
+use Rattle.promises.specs.Promises.{WriteConfiguration, WriteStatus, WriteThresholds, WriteDescriptors, ReadConfiguration, ReadStatus, ReadThresholds, ReadDescriptors, RewriteConfiguration, RewriteStatus, RewriteThresholds, RewriteDescriptors, ApplyControl, ApplyThresholds, Meant, EndPage, BuildControl, SetName, SetOverallName}
+use Rattle.promises.specs.PromisesForC.{Numbered, NumberedPage, NumberedWritten, NumberedBuilt, WriteConfigurationForC, WriteStatusForC, WriteThresholdsForC, WriteDescriptorsForC, ReadConfigurationForC, ReadStatusForC, ReadThresholdsForC, ReadDescriptorsForC, RewriteConfigurationForC, RewriteStatusForC, RewriteThresholdsForC, RewriteDescriptorsForC, ApplyControlForC, ApplyThresholdsForC, EndPageForC, BuildControlForC, FindNameForC, SetNameForC, SetOverallNameForC}
 use Rattle.promises.specs.Settled.{KeptIfRefused, KeptAnswered, KeptForC, KeptWritten, KeptBuilt}
 
 -- a shelf that is changed only where the tests accept
@@ -124,6 +127,23 @@ unfolding thresholds.valid
 apply-thresholds shelf page =
     changes (thresholds.thresholdsTested shelf page) (thresholds.valid shelf page) (withThresholds shelf (takenFrom shelf page)) shelf refl
 
+meant : (code : ℕ) (shelf page : List ℕ) → KeptIfRefused told.Refused (Meant code shelf page) shelf
+meant code shelf page = go (eqb code 0x02) (eqb code 0x05)
+  where
+    go : (a b : Bool)
+        → KeptIfRefused told.Refused
+        (Changes
+        (pick a (control.controlTested shelf page) (pick b (thresholds.thresholdsTested shelf page) (ofPage (otherTested shelf page))))
+        (pick a (controlled.after shelf page) (pick b (thresholds.after shelf page) shelf)))
+        shelf
+    go true b = apply-control shelf page
+    go false true = apply-thresholds shelf page
+    go false false = λ x o h. h .1
+
+-- whatever the collector is afterwards: that it is empty then is the promise itself
+pub end-page : (collector shelf : List ℕ) (code : ℕ) (c : List ℕ) → KeptIfRefused told.Refused (λ r o. EndPage collector shelf code r c o) shelf
+end-page collector shelf code c x o h = meant code shelf (pageOf collector) x o (h .0)
+
 pub build-control : (shelf wanted out : List ℕ) → KeptIfRefused built.Refused (BuildControl shelf wanted out) out
 build-control shelf wanted out x o h = go (wishTested shelf wanted) h
   where
@@ -185,6 +205,9 @@ ses-apply-control shelf page = numbered-page (ApplyControl shelf page) (apply-co
 
 pub ses-apply-thresholds : (shelf page : List ℕ) → KeptForC (ApplyThresholdsForC shelf page) shelf
 ses-apply-thresholds shelf page = numbered-page (ApplyThresholds shelf page) (apply-thresholds shelf page)
+
+pub ses-end-page : (collector shelf : List ℕ) (code : ℕ) (c : List ℕ) → KeptForC (λ n o k. EndPageForC collector shelf code n c o k) shelf
+ses-end-page collector shelf code c = numbered-page (λ r o. EndPage collector shelf code r c o) (end-page collector shelf code c)
 
 pub ses-build-control : (shelf wanted out : List ℕ) → KeptBuilt (BuildControlForC shelf wanted out) out
 ses-build-control shelf wanted out = numbered-built (BuildControl shelf wanted out) (build-control shelf wanted out)

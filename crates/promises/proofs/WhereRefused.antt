@@ -28,10 +28,11 @@ use Rattle.threshold_record.specs.Read as limits
 use Rattle.control_page.specs.Tests as controlSpecs
 use Rattle.control_page.proofs.FirstOffence as control
 use Rattle.threshold_page_out.specs.Tests as thresholds
-use Rattle.promises.specs.Promises.{ReadConfiguration, ReadStatus, ReadThresholds, ReadDescriptors, ApplyControl, ApplyThresholds}
-use Rattle.promises.specs.PromisesForC.{NumberedPage, ReadConfigurationForC, ReadStatusForC, ReadThresholdsForC, ReadDescriptorsForC, ApplyControlForC, ApplyThresholdsForC}
-use Rattle.promises.specs.Order.{Tests, ownOrder, order, inOrder, PassesTo6, FirstOffending, OffsetTold, configurationTests, descriptorTests, statusTests, limitTests, controlTests, takenTests}
-use Rattle.promises.proofs.PageOrder.{configuration-order, descriptor-order, status-order, limit-order, control-order, taken-order}
+use Rattle.collector.specs.Collector.{pageOf}
+use Rattle.promises.specs.Promises.{ReadConfiguration, ReadStatus, ReadThresholds, ReadDescriptors, ApplyControl, ApplyThresholds, EndPage}
+use Rattle.promises.specs.PromisesForC.{NumberedPage, ReadConfigurationForC, ReadStatusForC, ReadThresholdsForC, ReadDescriptorsForC, ApplyControlForC, ApplyThresholdsForC, EndPageForC}
+use Rattle.promises.specs.Order.{Tests, ownOrder, order, inOrder, PassesTo6, FirstOffending, OffsetTold, configurationTests, descriptorTests, statusTests, limitTests, controlTests, takenTests, otherTests, meantTests}
+use Rattle.promises.proofs.PageOrder.{configuration-order, descriptor-order, status-order, limit-order, control-order, taken-order, meant-order}
 
 -- 6, 7 and 8 are not 4, 12 or 0, and 6 tells where
 own-six : (k end : ℕ) (h o : Bool) → pageNumber (ownOrder k end h o) ≡ 6 → (k ≡ end → ⊥) × (pageOffset (ownOrder k end h o) ≡ k)
@@ -205,6 +206,22 @@ ses-apply-control shelf page = told-for-c (controlTests shelf page) refl (λ r o
 pub ses-apply-thresholds : (shelf page : List ℕ) → OffsetTold (takenTests shelf page) (ApplyThresholdsForC shelf page)
 unfolding rowsSpecs.byteOffends
 ses-apply-thresholds shelf page = told-for-c (takenTests shelf page) refl (λ r o h. h .0 ∙ taken-order shelf page)
+
+-- of the page collected, by the code meant
+pub ses-end-page : (collector shelf : List ℕ) (code : ℕ) (c : List ℕ)
+    → OffsetTold (meantTests code shelf (pageOf collector)) (λ n o k. EndPageForC collector shelf code n c o k)
+unfolding controlSpecs.offends rowsSpecs.byteOffends
+ses-end-page collector shelf code c =
+    told-for-c (meantTests code shelf p) (never-first (eqb code 0x02) (eqb code 0x05)) {P = λ r o. EndPage collector shelf code r c o}
+    (λ r o h. h .0 .0 ∙ meant-order code shelf p)
+  where
+    p : List ℕ
+    p = pageOf collector
+
+    never-first : (a b : Bool) → pick a (controlTests shelf p) (pick b (takenTests shelf p) (otherTests shelf p)) .offends 0 ≡ false
+    never-first true b = refl
+    never-first false true = refl
+    never-first false false = refl
 
 -- Two pages that agree up to the offset told: the other is refused there too, if it passes the tests before 6 and has the same length.
 module _ (p p' : List ℕ) {r : PageAnswer} {o : List ℕ} (q : pageNumber r ≡ 6) (a : AlikeTo (pageOffset r) p p') where

@@ -145,3 +145,21 @@ controlTests s p = slotTests (wellFormed s) s p 0x02 (control.offends s p) true 
 abbrev pub takenTests : List ℕ → List ℕ → Tests
 takenTests s p =
     slotTests (wellFormed s) s p 0x05 (rows.byteOffends p) (rows.allHad s p rows.onPage (slotsOf s)) (thresholds.allOrdered s p)
+
+-- where another code is meant, no page has it
+abbrev pub otherTests : List ℕ → List ℕ → Tests
+otherTests s p = record {
+  formed = wellFormed s;
+  size = leb 4 (length p);
+  code = false;
+  said = true;
+  needed = true;
+  generation = true;
+  offends = λ k. false;
+  end = 0;
+  had = true;
+  ordered = true;
+}
+
+abbrev pub meantTests : ℕ → List ℕ → List ℕ → Tests
+meantTests code s p = pick (eqb code 0x02) (controlTests s p) (pick (eqb code 0x05) (takenTests s p) (otherTests s p))

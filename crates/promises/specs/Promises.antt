@@ -26,6 +26,8 @@ use Rattle.threshold_record.specs.Rewritten as thresholdsAgain
 use Rattle.control_page.specs.Tests as control
 use Rattle.control_page.specs.Brought as controlled
 use Rattle.threshold_page_out.specs.Tests as thresholds
+use Rattle.collector.specs.Collector.{pageOf, collected, emptied}
+use Rattle.collected_page.specs.Meant.{meantTested, meantAfter}
 use Rattle.build_page.specs.declared.built.Built.{Built}
 use Rattle.build_page.specs.Promise.{Promised}
 
@@ -88,6 +90,22 @@ ApplyControl shelf page r o = Changes (control.controlTested shelf page) (contro
 -- 1 to 4, 12, 5 to 8; else the shelf with the thresholds that the page brings it to
 abbrev pub ApplyThresholds : List ℕ → List ℕ → PageAnswer → List ℕ → Type 0
 ApplyThresholds shelf page r o = Changes (thresholds.thresholdsTested shelf page) (thresholds.after shelf page) r o
+
+-- the count is 0, and the room as it was
+abbrev pub EmptyCollector : List ℕ → List ℕ → Type 0
+EmptyCollector collector o = o ≡ emptied collector
+
+-- the chunk is kept as far as there is room, and counted
+abbrev pub PutChunk : List ℕ → List ℕ → List ℕ → Type 0
+PutChunk collector chunk o = o ≡ collected collector chunk
+
+-- of the page that is meant by the code: of 02h as ApplyControl, of 05h as ApplyThresholds; of every other code 1 to 3
+abbrev pub Meant : ℕ → List ℕ → List ℕ → PageAnswer → List ℕ → Type 0
+Meant code shelf page r o = Changes (meantTested code shelf page) (meantAfter code shelf page) r o
+
+-- so of the page collected; and the collector is empty, whatever the answer
+abbrev pub EndPage : List ℕ → List ℕ → ℕ → PageAnswer → List ℕ → List ℕ → Type 0
+EndPage collector shelf code r c o = Meant code shelf (pageOf collector) r o × (c ≡ emptied collector)
 
 -- 1, 9, 10, 11; else the best page that reaches the wish
 abbrev pub BuildControl : List ℕ → List ℕ → List ℕ → Built → List ℕ → Type 0

@@ -11,7 +11,7 @@ use Rattle.names.specs.declared.finding.Found.{Found}
 use Rattle.names.specs.Found.{foundNumber, elementFound}
 use Rattle.build_page.specs.declared.built.Built.{Built}
 use Rattle.build_page.specs.Outcome.{builtNumber, bytesBuilt, selectsBuilt}
-use Rattle.promises.specs.Promises.{Check, WriteConfiguration, WriteStatus, WriteThresholds, WriteDescriptors, ReadConfiguration, ReadStatus, ReadThresholds, ReadDescriptors, RewriteConfiguration, RewriteStatus, RewriteThresholds, RewriteDescriptors, ApplyControl, ApplyThresholds, BuildControl, FindName, SetName, SetOverallName}
+use Rattle.promises.specs.Promises.{Check, WriteConfiguration, WriteStatus, WriteThresholds, WriteDescriptors, ReadConfiguration, ReadStatus, ReadThresholds, ReadDescriptors, RewriteConfiguration, RewriteStatus, RewriteThresholds, RewriteDescriptors, ApplyControl, ApplyThresholds, EmptyCollector, PutChunk, EndPage, BuildControl, FindName, SetName, SetOverallName}
 
 -- the answer r keeps the promise P
 abbrev pub Numbered : (Answer → Type 0) → ℕ → Type 0
@@ -76,6 +76,16 @@ ApplyControlForC shelf page number o offset = NumberedPage (λ r. ApplyControl s
 
 abbrev pub ApplyThresholdsForC : List ℕ → List ℕ → ℕ → List ℕ → ℕ → Type 0
 ApplyThresholdsForC shelf page number o offset = NumberedPage (λ r. ApplyThresholds shelf page r o) number offset
+
+-- nothing is told where nothing is answered
+abbrev pub EmptyCollectorForC : List ℕ → List ℕ → Type 0
+EmptyCollectorForC collector o = EmptyCollector collector o
+
+abbrev pub PutChunkForC : List ℕ → List ℕ → List ℕ → Type 0
+PutChunkForC collector chunk o = PutChunk collector chunk o
+
+abbrev pub EndPageForC : List ℕ → List ℕ → ℕ → ℕ → List ℕ → List ℕ → ℕ → Type 0
+EndPageForC collector shelf code number c o offset = NumberedPage (λ r. EndPage collector shelf code r c o) number offset
 
 abbrev pub BuildControlForC : List ℕ → List ℕ → List ℕ → ℕ → List ℕ → ℕ → ℕ → Type 0
 BuildControlForC shelf wanted out number o written selects = NumberedBuilt (λ r. BuildControl shelf wanted out r o) number written selects

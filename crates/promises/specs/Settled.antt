@@ -3,7 +3,7 @@ use mathlib.Core.Path.{_≡_}
 use mathlib.Core.List.{List}
 use Prim.Native.Nat.{ℕ}
 
--- of a call that is lent nothing to be changed
+-- of a call that is lent nothing to be changed; or that answers nothing, of what it leaves
 abbrev pub OneAnswer : {R : Type 0} → (R → Type 0) → Type 0
 OneAnswer {R} P = (r q : R) → P r → P q → r ≡ q
 
@@ -22,6 +22,14 @@ OneBuilt P = (n m : ℕ) (y z : List ℕ) (b c k l : ℕ) → P n y b k → P m 
 -- of a search the element told, and nothing is lent to be changed
 abbrev pub OneFound : (ℕ → ℕ → Type 0) → Type 0
 OneFound P = (n m b c : ℕ) → P n b → P m c → (n ≡ m) × (b ≡ c)
+
+-- two blocks are lent to be changed
+abbrev pub OneBoth : {R : Type 0} → (R → List ℕ → List ℕ → Type 0) → Type 0
+OneBoth {R} P = (r q : R) (b c y z : List ℕ) → P r b y → P q c z → (r ≡ q) × (b ≡ c) × (y ≡ z)
+
+-- for C also the offset
+abbrev pub OneBothTold : (ℕ → List ℕ → List ℕ → ℕ → Type 0) → Type 0
+OneBothTold P = (n m : ℕ) (b c y z : List ℕ) (j k : ℕ) → P n b y j → P m c z k → (n ≡ m) × (b ≡ c) × (y ≡ z) × (j ≡ k)
 
 -- a refusal leaves what was lent as it was
 abbrev pub KeptIfRefused : {X R : Type 0} → (X → R) → (R → List ℕ → Type 0) → List ℕ → Type 0

@@ -1,7 +1,7 @@
 // The public calls for C: a refusal is told by its number; bytes written, SELECTs, the offset of an offending byte and an element
 // found through references. An offset is 0 unless a refusal tells it.
 use shelf::limits;
-ghost use Rattle.promises.specs.PromisesForC.{CheckForC, WriteConfigurationForC, WriteStatusForC, WriteThresholdsForC, WriteDescriptorsForC, ReadConfigurationForC, ReadStatusForC, ReadThresholdsForC, ReadDescriptorsForC, RewriteConfigurationForC, RewriteStatusForC, RewriteThresholdsForC, RewriteDescriptorsForC, ApplyControlForC, ApplyThresholdsForC, BuildControlForC, FindNameForC, SetNameForC, SetOverallNameForC};
+ghost use Rattle.promises.specs.PromisesForC.{CheckForC, WriteConfigurationForC, WriteStatusForC, WriteThresholdsForC, WriteDescriptorsForC, ReadConfigurationForC, ReadStatusForC, ReadThresholdsForC, ReadDescriptorsForC, RewriteConfigurationForC, RewriteStatusForC, RewriteThresholdsForC, RewriteDescriptorsForC, ApplyControlForC, ApplyThresholdsForC, EmptyCollectorForC, PutChunkForC, EndPageForC, BuildControlForC, FindNameForC, SetNameForC, SetOverallNameForC};
 
 #[no_mangle]
 pub extern "C" fn ses_check(shelf: &[u8]) -> u8
@@ -166,6 +166,33 @@ pub extern "C" fn ses_apply_thresholds(shelf: &mut [u8], page: &[u8], offset: &m
 {
     *offset = 0;
     crate::apply_thresholds(shelf, page).tell(offset)
+}
+
+#[no_mangle]
+pub extern "C" fn ses_empty_collector(collector: &mut [u8; collector::LENGTH])
+    ensures { λ _. ⌜ EmptyCollectorForC (now (collector .entry)) (now (collector .exit)) ⌝ }
+{
+    crate::empty_collector(collector);
+}
+
+#[no_mangle]
+pub extern "C" fn ses_put_chunk(collector: &mut [u8; collector::LENGTH], chunk: &[u8])
+    ensures { λ _. ⌜ PutChunkForC (now (collector .entry)) (now (chunk .entry)) (now (collector .exit)) ⌝ }
+{
+    crate::put_chunk(collector, chunk);
+}
+
+#[no_mangle]
+pub extern "C" fn ses_end_page(
+    collector: &mut [u8; collector::LENGTH],
+    shelf: &mut [u8],
+    code: u8,
+    offset: &mut u32,
+) -> u8
+    ensures { λ r. ⌜ EndPageForC (now (collector .entry)) (now (shelf .entry)) code r (now (collector .exit)) (now (shelf .exit)) (now (offset .exit)) ⌝ }
+{
+    *offset = 0;
+    crate::end_page(collector, shelf, code).tell(offset)
 }
 
 #[no_mangle]

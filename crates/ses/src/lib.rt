@@ -11,7 +11,7 @@ use refusals::PageAnswer;
 use refusals::Tested;
 use refusals::Written;
 use shelf::limits;
-ghost use Rattle.promises.specs.Promises.{Check, WriteConfiguration, WriteStatus, WriteThresholds, WriteDescriptors, ReadConfiguration, ReadStatus, ReadThresholds, ReadDescriptors, RewriteConfiguration, RewriteStatus, RewriteThresholds, RewriteDescriptors, ApplyControl, ApplyThresholds, BuildControl, FindName, SetName, SetOverallName};
+ghost use Rattle.promises.specs.Promises.{Check, WriteConfiguration, WriteStatus, WriteThresholds, WriteDescriptors, ReadConfiguration, ReadStatus, ReadThresholds, ReadDescriptors, RewriteConfiguration, RewriteStatus, RewriteThresholds, RewriteDescriptors, ApplyControl, ApplyThresholds, EmptyCollector, PutChunk, EndPage, BuildControl, FindName, SetName, SetOverallName};
 
 // Is this block a well-formed shelf?
 pub fn check(shelf: &[u8]) -> Answer
@@ -140,6 +140,26 @@ pub fn apply_thresholds(shelf: &mut [u8], page: &[u8]) -> PageAnswer
     ensures { λ r. ⌜ ApplyThresholds (now (shelf .entry)) (now (page .entry)) r (now (shelf .exit)) ⌝ }
 {
     threshold_page_out::apply(shelf, page)
+}
+
+// A page for either of them that comes in chunks: it is collected in a block that the caller lends, and acts at its end.
+pub fn empty_collector(collector: &mut [u8; collector::LENGTH])
+    ensures { λ _. ⌜ EmptyCollector (now (collector .entry)) (now (collector .exit)) ⌝ }
+{
+    collector::empty(collector);
+}
+
+pub fn put_chunk(collector: &mut [u8; collector::LENGTH], chunk: &[u8])
+    ensures { λ _. ⌜ PutChunk (now (collector .entry)) (now (chunk .entry)) (now (collector .exit)) ⌝ }
+{
+    collector::put(collector, chunk);
+}
+
+// The code is that of the page meant. The collector is ready for the next page afterwards.
+pub fn end_page(collector: &mut [u8; collector::LENGTH], shelf: &mut [u8], code: u8) -> PageAnswer
+    ensures { λ r. ⌜ EndPage (now (collector .entry)) (now (shelf .entry)) code r (now (collector .exit)) (now (shelf .exit)) ⌝ }
+{
+    collected_page::end(collector, shelf, code)
 }
 
 // The control page that brings the shelf to the wanted settings: four bytes for each element, as the shelf stores them.

@@ -1,18 +1,24 @@
-// The pages that act, applied to a shelf.
+// The pages that act: applied to a shelf, and the answer told.
 use refusals::PageAnswer;
 use refusals::PageRefusal;
 use tool_input::arguments::Act;
 
-// The answer and, if the page is accepted, what the shelf holds afterwards.
-pub fn tell(act: Act, shelf: &mut [u8], page: &[u8]) {
-    if tell_answer(act, shelf, page) {
+pub fn apply(act: Act, shelf: &mut [u8], page: &[u8]) -> PageAnswer {
+    match act {
+        Act::Control => ses::apply_control(shelf, page),
+        Act::Thresholds => ses::apply_thresholds(shelf, page),
+    }
+}
+
+// The answer and, if the page was accepted, what the shelf holds afterwards.
+pub fn tell(shelf: &[u8], answer: PageAnswer) {
+    if tell_answer(shelf, answer) {
         tool_show::contents(shelf);
     }
 }
 
 // Answers whether the page was accepted, after saying so.
-pub fn tell_answer(act: Act, shelf: &mut [u8], page: &[u8]) -> bool {
-    let answer = apply(act, shelf, page);
+pub fn tell_answer(shelf: &[u8], answer: PageAnswer) -> bool {
     match answer {
         PageAnswer::Accepted => {
             tool_print::text(b"accepted\n");
@@ -22,13 +28,6 @@ pub fn tell_answer(act: Act, shelf: &mut [u8], page: &[u8]) -> bool {
             tell_refused(shelf, told);
             false
         }
-    }
-}
-
-fn apply(act: Act, shelf: &mut [u8], page: &[u8]) -> PageAnswer {
-    match act {
-        Act::Control => ses::apply_control(shelf, page),
-        Act::Thresholds => ses::apply_thresholds(shelf, page),
     }
 }
 

@@ -2,7 +2,6 @@
 use crate::applying;
 use crate::building;
 use crate::pages;
-use tool_input::arguments::Act;
 use tool_input::arguments::Page;
 use tool_shelf::builtin;
 use tool_shelf::changes;
@@ -27,7 +26,8 @@ fn bring(shelf: &mut [u8]) {
     tool_print::hex_lines(&wanted, n);
     let mut page = [0u8; builtin::CONTROL_LENGTH];
     building::tell_into(shelf, &wanted, &mut page);
-    applying::tell_answer(Act::Control, shelf, &page);
+    let answer = ses::apply_control(shelf, &page);
+    applying::tell_answer(shelf, answer);
 }
 
 // The stored settings, but for element 0: ON and SPEED 7.

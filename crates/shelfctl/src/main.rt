@@ -8,6 +8,7 @@ mod building;
 mod full_speed;
 mod naming;
 mod pages;
+mod pieces;
 
 use tool_input::arguments;
 use tool_input::arguments::Act;
@@ -52,6 +53,7 @@ fn without_file(command: Command) {
         | Command::Settings
         | Command::Build
         | Command::Apply(_)
+        | Command::Pieces
         | Command::Read
         | Command::Find
         | Command::Set(_) => {
@@ -80,6 +82,7 @@ fn tell(command: Command, shelf: &mut [u8]) {
         Command::Settings => tell_settings(shelf),
         Command::Build => build(shelf),
         Command::Apply(act) => apply(act, shelf),
+        Command::Pieces => pieces::tell(shelf),
         Command::Read => read(shelf),
         Command::Find => naming::tell_found(shelf),
         Command::Set(named) => naming::tell_set(named, shelf),
@@ -120,7 +123,8 @@ fn apply(act: Act, shelf: &mut [u8]) {
     let loaded = files::load(arguments::INPUT_PLACE, b"PAGE", &mut page);
     if loaded.is_done {
         let n = loaded.bytes;
-        applying::tell(act, shelf, &page[..n]);
+        let answer = applying::apply(act, shelf, &page[..n]);
+        applying::tell(shelf, answer);
     }
 }
 

@@ -14,7 +14,7 @@ ghost use Rattle.page.specs.Slots.{slotsOf};
 ghost use Rattle.page.specs.Header.{HasPage};
 ghost use Rattle.threshold_page_out.specs.Tests.{elementOrdered, orderTested, limitsTested, bytesTested, thresholdsTested};
 
-const CODE: u8 = 0x05;
+pub const CODE: u8 = 0x05;
 
 // Element j would keep the threshold order.
 fn element_ordered(shelf: &[u8], page: &[u8], at: Places, j: u16) -> bool

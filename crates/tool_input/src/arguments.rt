@@ -1,4 +1,4 @@
-// The words of a command line: which command they name, which of them is a file, and the name and the number among them.
+// The words of a command line: which command they name, which of them is a file, and the name and the numbers among them.
 //
 // What is wrong with them goes to standard error.
 use libc::STDERR_FILENO;
@@ -10,6 +10,13 @@ pub const INPUT_PLACE: u8 = 2;
 
 // Which one the name is, behind such a number.
 pub const NAME_PLACE: u8 = INPUT_PLACE + 1;
+
+// Which ones the size of a piece, the page code meant and PAGE are, of the command that takes all three.
+pub const SIZE_PLACE: u8 = INPUT_PLACE;
+
+pub const CODE_PLACE: u8 = SIZE_PLACE + 1;
+
+pub const PAGE_PLACE: u8 = CODE_PLACE + 1;
 
 // One byte more than the longest name.
 pub const NAME_ROOM: usize = limits::MOST_TEXT as usize + 1;
@@ -39,6 +46,7 @@ pub enum Command {
     Settings,
     Build,
     Apply(Act),
+    Pieces,
     Read,
     Find,
     Set(Named),
@@ -84,6 +92,9 @@ pub fn first_given() -> Given {
     if first_is(b"apply-thresholds") {
         return Given::Command(Command::Apply(Act::Thresholds));
     }
+    if first_is(b"apply-pieces") {
+        return Given::Command(Command::Pieces);
+    }
     if first_is(b"read-descriptors") {
         return Given::Command(Command::Read);
     }
@@ -112,6 +123,7 @@ pub fn file_place(command: Command) -> u8 {
         Command::Show | Command::Check | Command::Page(_) | Command::Settings => 2,
         Command::Build | Command::Apply(_) | Command::Read | Command::Find => INPUT_PLACE + 1,
         Command::Set(_) => NAME_PLACE + 1,
+        Command::Pieces => PAGE_PLACE + 1,
     }
 }
 
@@ -136,6 +148,15 @@ pub fn number(place: u8) -> Told {
     told_by(&digits[..n])
 }
 
+// The same, or another number where none is told.
+pub fn number_or(place: u8, other: u32) -> u32 {
+    let told = number(place);
+    match told {
+        Told::Number(n) => n,
+        Told::Nothing => other,
+    }
+}
+
 fn told_by(digits: &[u8]) -> Told {
     if digits.len() == 0 {
         return Told::Nothing;
@@ -156,7 +177,8 @@ fn is_digit(b: u8) -> bool {
     (b'0' <= b) & (b <= b'9')
 }
 
-// The number with one more digit behind it, whose low half is its value. One that is past every element anyway stays as it is.
+// The number with one more digit behind it, whose low half is its value. One that is past every element, code and page anyway stays as
+// it is.
 fn with_digit(told: u32, digit: u8) -> u32 {
     if told < 100_000_000 {
         10 * told + (digit % 16) as u32
@@ -192,10 +214,14 @@ pub fn say_usage() {
     );
     io::write_all(
         STDERR_FILENO,
-        b"                 apply-control PAGE [FILE] | apply-thresholds PAGE [FILE] | read-descriptors PAGE [FILE] |\n",
+        b"                 apply-control PAGE [FILE] | apply-thresholds PAGE [FILE] | apply-pieces SIZE CODE PAGE [FILE] |\n",
     );
     io::write_all(
         STDERR_FILENO,
-        b"                 find-name NAME [FILE] | set-name ELEMENT NAME [FILE] | set-overall-name TYPE NAME [FILE]]\n",
+        b"                 read-descriptors PAGE [FILE] | find-name NAME [FILE] | set-name ELEMENT NAME [FILE] |\n",
+    );
+    io::write_all(
+        STDERR_FILENO,
+        b"                 set-overall-name TYPE NAME [FILE]]\n",
     );
 }

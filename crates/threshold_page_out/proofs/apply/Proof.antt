@@ -1,4 +1,5 @@
 -- `threshold_page_out::apply` meets its contract. Assumes nothing.
+use mathlib.Core.Path.{sym, _∙_}
 use denote.Ref.{now}
 use Rattle.threshold_page_out.proofs.PageActs.{accepted-room, refused-after, accepted-after}
 use borrow.Author.Needs.{needs}
@@ -12,7 +13,13 @@ act-requires : tie.Need-act-requires
 act-requires c κs = let s = c .before .before .before .before .before .before .before .args in accepted-room (now (s .shelf)) (now (s .page)) (c .before .before .before .test .ensures) (c .before .enum-told .given .1)
 
 returns-2 : tie.Need-returns-2
-returns-2 c = let s = c .before .before .before .before .before .before .before .before .before .before .args in (c .before .before .before .before .before .before .test .ensures, accepted-after (now (s .shelf)) (now (s .page)) (c .before .before .before .before .before .before .test .ensures) (c .before .before .before .before .enum-told .given .1) (c .before .before .act .ensures))
+returns-2 c =
+    let e = c .before .before .before .before in
+    let t = e .before .before in
+    let s = t .before .before .before .before .args in
+    let h = t .test .ensures in
+    let u = e .enum-told .given .1 in
+    (sym u ∙ h, accepted-after (now (s .shelf)) (now (s .page)) h u (c .before .before .act .ensures))
 
 pub apply-spec : {M : Type 1} → statement M
 apply-spec =

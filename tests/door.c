@@ -1,10 +1,10 @@
 /* The library behind a pipe, so that a program of any language and processor can ask it.
  *
  * A request is one byte that names the call, then its buffers, each a length of four bytes (the highest
- * first) and as many bytes; a number is a buffer of four. The answer is the call's own byte, for a call that
- * writes a page the four bytes of `written`, for the builder those of `selects` too, for a call that reads or
- * applies a page those of `offset`, for the one that looks for a name those of `element`, and then the buffer
- * that it may change, if there is one.
+ * first) and as many bytes; a number is a buffer of four. The answer is the call's own byte, if it has one, for
+ * a call that writes a page the four bytes of `written`, for the builder those of `selects` too, for a call
+ * that reads or applies a page those of `offset`, for the one that looks for a name those of `element`, and
+ * then each buffer that it may change.
  *
  *   c shelf                        ses_check
  *   A shelf out                    ses_write_configuration, written, and out
@@ -25,6 +25,9 @@
  *   P shelf text                   ses_find_name and element
  *   Q shelf element text           ses_set_name and the shelf
  *   R shelf type text              ses_set_overall_name and the shelf
+ *   S collector                    the collector after ses_empty_collector
+ *   T collector chunk              the collector after ses_put_chunk
+ *   U collector shelf code         ses_end_page, offset, the collector and the shelf; the code is one byte
  *   .                              all answers are sent
  */
 #include "ses.h"
@@ -44,7 +47,7 @@ struct buffer {
     size_t room;
 };
 
-static struct buffer first, second, lent;
+static struct buffer first, second, lent, collector;
 static uint32_t written, selects, offset, element;
 
 static void fail(const char *why)
@@ -119,10 +122,15 @@ static void check_input(const struct buffer *b)
         fail("the library changed what it may only look at");
 }
 
+static void send_changed(const struct buffer *b)
+{
+    check_guards(b);
+    fwrite(b->bytes, 1, b->length, stdout);
+}
+
 static void send_lent(void)
 {
-    check_guards(&lent);
-    fwrite(lent.bytes, 1, lent.length, stdout);
+    send_changed(&lent);
 }
 
 static void send_number(uint32_t number)
@@ -285,6 +293,39 @@ static void answer_build(void)
     send_lent();
 }
 
+static struct ses_collector *take_collector(void)
+{
+    take_record(&collector, sizeof(struct ses_collector));
+    return (struct ses_collector *)collector.bytes;
+}
+
+static void answer_empty(void)
+{
+    ses_empty_collector(take_collector());
+    send_changed(&collector);
+}
+
+static void answer_put(void)
+{
+    struct ses_collector *into = take_collector();
+    take_input(&first);
+    ses_put_chunk(into, first.bytes, first.length);
+    check_input(&first);
+    send_changed(&collector);
+}
+
+static void answer_end(void)
+{
+    struct ses_collector *of = take_collector();
+    take(&lent);
+    take_record(&first, 1);
+    offset = NOT_WRITTEN;
+    putchar(ses_end_page(of, lent.bytes, lent.length, first.bytes[0], &offset));
+    send_number(offset);
+    send_changed(&collector);
+    send_lent();
+}
+
 int main(void)
 {
     int call;
@@ -347,6 +388,15 @@ int main(void)
             break;
         case 'R':
             answer_set(ses_set_overall_name);
+            break;
+        case 'S':
+            answer_empty();
+            break;
+        case 'T':
+            answer_put();
+            break;
+        case 'U':
+            answer_end();
             break;
         case '.':
             fflush(stdout);

@@ -110,5 +110,12 @@ const fn longer(one: usize, other: usize) -> usize {
 
 /// The longest page that can say its own length, in 16 bits and without the first four bytes.
 pub const LONGEST_SAID: usize = 4 + u16::MAX as usize;
+/// Bytes of a page at which a collector stops counting, the first that no page can say.
+pub const COUNT_STOPS: usize = LONGEST_SAID + 1;
+/// What a collector keeps of a page: all of the longest 02h or 05h.
+pub const MOST_KEPT: usize = element_page_bytes(MOST_ENTRIES);
+/// Where a collector has what it keeps, behind the count.
+pub const KEPT_AT: usize = 4;
+pub const COLLECTOR_BYTES: usize = KEPT_AT + MOST_KEPT;
 /// As many elements as all slots together can say, with a byte each.
 pub const MOST_SAID: usize = MOST_TYPES * u8::MAX as usize;

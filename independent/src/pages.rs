@@ -1,10 +1,11 @@
-//! The pages 01h, 02h, 05h and 07h: what the readers of each hand back, what those that act do to a shelf, and
-//! which is best for a wish; and the names of a shelf.
+//! The pages 01h, 02h, 05h and 07h: what the readers of each hand back, what those that act do to a shelf, at once
+//! or in pieces, and which is best for a wish; and the names of a shelf.
 
 mod before;
 mod builder;
 pub mod calls;
 pub mod cases;
+pub mod collector;
 pub mod compare;
 mod configuration;
 mod control;

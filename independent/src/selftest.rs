@@ -4,6 +4,7 @@
 mod acting;
 mod building;
 mod checks;
+mod collecting;
 mod elements;
 pub mod examples;
 mod names;
@@ -19,6 +20,7 @@ pub fn run() -> bool {
     acting::check(&mut checks);
     offsets::check(&mut checks);
     names::check(&mut checks);
+    collecting::check(&mut checks);
     building::check(&mut checks);
     checks.tell()
 }

@@ -2,12 +2,12 @@
 //! in their order of then, written apart from those of today but for 1, 7 and 8, which have not changed.
 
 use super::calls::{
-    APPLY_CONTROL, APPLY_THRESHOLDS, READ_CONFIGURATION, READ_STATUS, READ_THRESHOLDS,
+    APPLY_CONTROL, APPLY_THRESHOLDS, END_PAGE, READ_CONFIGURATION, READ_STATUS, READ_THRESHOLDS,
 };
 use super::cases::case::Case;
 use super::thresholds::ThresholdList;
 use super::{configuration, threshold_out, ElementPage, Refusal};
-use crate::limits::{element_page_bytes, HIGHEST_CODE};
+use crate::limits::{element_page_bytes, COLLECTOR_BYTES, HIGHEST_CODE};
 use crate::record::{self, Configuration, Cursor, Identification, Kind, Shelf, Type};
 use crate::shown::Place;
 use std::iter::zip;
@@ -26,6 +26,8 @@ pub fn number(case: &Case) -> Option<u8> {
         control_applied(lent, &inputs[0])
     } else if is(APPLY_THRESHOLDS.letter) {
         thresholds_applied(lent, &inputs[0])
+    } else if is(END_PAGE.letter) {
+        joined_and_applied(&lent[COLLECTOR_BYTES..], inputs[1][0], &inputs[0])
     } else {
         return None;
     };
@@ -79,6 +81,19 @@ fn thresholds_applied(shelf: &[u8], page: &[u8]) -> Outcome {
         elements: elements_of(page),
     };
     as_today(threshold_out::joined(&shelf, &page.by_type(&configuration)))
+}
+
+/// A page that has come in pieces, by the one call for the code meant.
+fn joined_and_applied(shelf: &[u8], code: u8, page: &[u8]) -> Outcome {
+    match code {
+        0x02 => control_applied(shelf, page),
+        0x05 => thresholds_applied(shelf, page),
+        _ => {
+            well_formed(shelf)?;
+            test(2, page.len() < 4)?;
+            Err(3)
+        }
+    }
 }
 
 fn test(number: u8, holds: bool) -> Outcome {

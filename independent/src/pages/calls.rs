@@ -1,9 +1,11 @@
-//! The eighteen calls on bytes, as the C library has them.
+//! The twenty-one calls on bytes, as the C library has them.
 
+use super::collector::Collector;
 use super::descriptors::{self, NameList};
 use super::status::Status;
 use super::thresholds::ThresholdList;
 use super::{builder, configuration, control, threshold_out, Refusal};
+use crate::limits::COLLECTOR_BYTES;
 use crate::record::{self, Configuration, Shelf};
 use std::iter::zip;
 
@@ -46,6 +48,11 @@ impl Answer {
         &self.bytes[1..]
     }
 
+    /// The collector and the shelf, for the call that ends a page.
+    pub fn collector_and_shelf(&self) -> (&[u8], &[u8]) {
+        self.record().split_at(COLLECTOR_BYTES)
+    }
+
     fn wide_number(&self, at: usize) -> usize {
         wide_number(&self.bytes[at..])
     }
@@ -62,21 +69,26 @@ fn wide_number(bytes: &[u8]) -> usize {
 pub struct Call {
     pub name: &'static str,
     pub letter: u8,
-    /// Every number that the call can answer with.
+    /// Every number that the call can answer with; 0 alone if it has no answer.
     pub outcomes: &'static [u8],
-    /// What the four-byte numbers behind it tell.
+    /// What the four-byte numbers behind it tell, the first four bytes of a collector among them.
     tells: &'static [&'static str],
     rule: Rule,
 }
 
 /// By the number of buffers it looks at; the last buffer is the one that it may change. A call that acts
 /// may change the first, the shelf, and one that only asks may change none. A number handed in is a buffer too.
+/// A call on a collector may change that, and behind it the shelf; the first buffer of such a call is the whole page
+/// so far, of which the library is told no more than the collector has.
 enum Rule {
     OfOne(fn(&[u8], &[u8]) -> Answer),
     OfTwo(fn(&[u8], &[u8], &[u8]) -> Answer),
     Asking(fn(&[u8], &[u8]) -> Answer),
     Acting(fn(&[u8], &[u8]) -> Answer),
     Setting(fn(&[u8], u32, &[u8]) -> Answer),
+    Emptying(fn(Collector) -> Answer),
+    Putting(fn(Collector, &[u8]) -> Answer),
+    Ending(fn(Collector, &[u8], u8) -> Answer),
 }
 
 pub static WRITE_CONFIGURATION: Call = Call {
@@ -223,7 +235,31 @@ pub static SET_OVERALL_NAME: Call = Call {
     rule: Rule::Setting(set_overall_name),
 };
 
-pub static ALL: [&Call; 18] = [
+pub static EMPTY_COLLECTOR: Call = Call {
+    name: "empty_collector",
+    letter: b'S',
+    outcomes: &[0],
+    tells: &[],
+    rule: Rule::Emptying(empty_collector),
+};
+
+pub static PUT_CHUNK: Call = Call {
+    name: "put_chunk",
+    letter: b'T',
+    outcomes: &[0],
+    tells: &[],
+    rule: Rule::Putting(put_chunk),
+};
+
+pub static END_PAGE: Call = Call {
+    name: "end_page",
+    letter: b'U',
+    outcomes: &[0, 1, 2, 3, 4, 5, 6, 7, 8, 12],
+    tells: &["offset", "count"],
+    rule: Rule::Ending(end_page),
+};
+
+pub static ALL: [&Call; 21] = [
     &WRITE_CONFIGURATION,
     &WRITE_STATUS,
     &WRITE_THRESHOLDS,
@@ -242,6 +278,9 @@ pub static ALL: [&Call; 18] = [
     &FIND_NAME,
     &SET_NAME,
     &SET_OVERALL_NAME,
+    &EMPTY_COLLECTOR,
+    &PUT_CHUNK,
+    &END_PAGE,
 ];
 
 impl Call {
@@ -255,12 +294,21 @@ impl Call {
                 let number = number[..].try_into().expect("a number of four bytes");
                 rule(lent, u32::from_be_bytes(number), text)
             }
+            (Rule::Emptying(rule), [page]) => rule(Collector::of(lent, page)),
+            (Rule::Putting(rule), [page, chunk]) => rule(Collector::of(lent, page), chunk),
+            (Rule::Ending(rule), [page, code]) => {
+                let (collector, shelf) = lent.split_at(COLLECTOR_BYTES);
+                rule(Collector::of(collector, page), shelf, code[0])
+            }
             _ => panic!("{} takes another number of buffers", self.name),
         }
     }
 
     /// The numbers of an answer as the door sends it, each behind its name.
     pub fn numbers(&self, answer: &[u8]) -> String {
+        if let Rule::Emptying(_) | Rule::Putting(_) = self.rule {
+            return format!("no answer, count {}", wide_number(answer));
+        }
         let mut numbers = format!("answer {}", answer[0]);
         for (name, bytes) in zip(self.tells, answer[1..].chunks(4)) {
             numbers += &format!(", {name} {}", wide_number(bytes));
@@ -275,6 +323,12 @@ impl Call {
             Rule::OfOne(_) | Rule::OfTwo(_) => buffers.push(lent),
             Rule::Asking(_) => {}
             Rule::Acting(_) | Rule::Setting(_) => buffers.insert(0, lent),
+            Rule::Emptying(_) | Rule::Putting(_) => buffers[0] = lent,
+            Rule::Ending(_) => {
+                let (collector, shelf) = lent.split_at(COLLECTOR_BYTES);
+                buffers[0] = shelf;
+                buffers.insert(0, collector);
+            }
         }
         buffers
     }
@@ -394,6 +448,28 @@ pub fn set_overall_name(shelf: &[u8], of_type: u32, text: &[u8]) -> Answer {
     set(well_formed_shelf(shelf).and_then(after), shelf)
 }
 
+pub fn empty_collector(mut collector: Collector) -> Answer {
+    collector.start();
+    left(collector)
+}
+
+pub fn put_chunk(mut collector: Collector, chunk: &[u8]) -> Answer {
+    collector.put(chunk);
+    left(collector)
+}
+
+/// As a call that applies the page, and the collector in front of the shelf.
+pub fn end_page(mut collector: Collector, shelf: &[u8], code: u8) -> Answer {
+    let after = well_formed_shelf(shelf).and_then(|shelf| collector.after(&shelf, code));
+    let Answer { number, bytes } = handed_back(after.map(|shelf| shelf.block()), shelf);
+    collector.start();
+    let (numbers, shelf) = bytes.split_at(5);
+    Answer {
+        number,
+        bytes: [numbers, &collector.block(), shelf].concat(),
+    }
+}
+
 fn well_formed_shelf(block: &[u8]) -> Result<Shelf, Refusal> {
     record::read(block)
         .filter(Shelf::well_formed)
@@ -424,6 +500,14 @@ fn handed_back(record: Result<Vec<u8>, Refusal>, before: &[u8]) -> Answer {
 fn set(after: Result<Shelf, Refusal>, before: &[u8]) -> Answer {
     let (number, after) = outcome(after.map(|shelf| shelf.block()));
     told(number, &[], laid_over(after, before))
+}
+
+/// The collector alone.
+fn left(collector: Collector) -> Answer {
+    Answer {
+        number: 0,
+        bytes: collector.block(),
+    }
 }
 
 fn fitting(page: Vec<u8>, out: &[u8]) -> Result<Vec<u8>, Refusal> {

@@ -4,6 +4,8 @@ mod acting;
 mod building;
 pub mod case;
 mod changes;
+pub mod collecting;
+mod collectors;
 mod configuration;
 pub mod control;
 pub mod descriptors;
@@ -44,4 +46,5 @@ pub fn offer_all(rng: &mut Rng, offer: Offer) {
             offer(offending(rng));
         }
     }
+    collecting::offer_all(rng, offer);
 }

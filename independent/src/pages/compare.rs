@@ -1,4 +1,4 @@
-//! Compares the eighteen calls on pages and names with the library's.
+//! Compares the twenty-one calls on pages, names and collectors with the library's.
 
 use super::before;
 use super::cases::{self, case::Case};
@@ -97,7 +97,7 @@ fn print_given(case: &Case) {
     for input in &case.inputs {
         print_bytes("given", input);
     }
-    print_bytes("output, record or shelf before", &case.lent);
+    print_bytes("output, record, collector or shelf before", &case.lent);
 }
 
 fn print_bytes(what: &str, bytes: &[u8]) {

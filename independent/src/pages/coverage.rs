@@ -1,13 +1,14 @@
 //! How often the calls compared brought up each thing that they can.
 
+mod collected;
 mod fans;
 mod names;
 mod refused;
 mod tally;
 
 use super::calls::{
-    self, Answer, APPLY_CONTROL, APPLY_THRESHOLDS, BUILD_CONTROL, READ_STATUS, REWRITE_STATUS,
-    WRITE_STATUS,
+    self, Answer, APPLY_CONTROL, APPLY_THRESHOLDS, BUILD_CONTROL, EMPTY_COLLECTOR, END_PAGE,
+    PUT_CHUNK, READ_STATUS, REWRITE_STATUS, WRITE_STATUS,
 };
 use super::cases::case::Case;
 use super::status::Status;
@@ -15,6 +16,7 @@ use super::{parts, ElementPage, Refusal, TypeElements};
 use crate::bits::{bit, flag};
 use crate::record::{self, Configuration, Group, Shelf};
 use crate::shown::Place;
+use collected::Collected;
 use fans::{Entry, Fans};
 use names::Names;
 use refused::Refused;
@@ -138,6 +140,7 @@ pub struct Coverage {
     refused: Refused,
     names: Names,
     fans: Fans,
+    collected: Collected,
     codes: Tally,
     read: Tally,
     rewritten: Tally,
@@ -155,6 +158,10 @@ impl Coverage {
     pub fn count(&mut self, case: &Case, answer: &Answer) {
         let Case { call, inputs, lent } = case;
         self.outcomes.count(call.name, answer.number);
+        if [EMPTY_COLLECTOR.letter, PUT_CHUNK.letter, END_PAGE.letter].contains(&call.letter) {
+            self.collected.count(case, answer);
+            return;
+        }
         if call.outcomes.contains(&Refusal::NeededLength.number()) {
             self.refused.count(case, answer);
         }
@@ -218,6 +225,7 @@ impl Coverage {
         enough &= self.refused.print();
         enough &= self.names.print();
         enough &= self.fans.print();
+        enough &= self.collected.print();
         if !enough {
             println!("too few: at least {LEAST_OF_EACH} of each are wanted");
         }

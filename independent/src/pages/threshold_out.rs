@@ -4,7 +4,7 @@ use super::{none_of, ElementPage, Refusal, TypeElements};
 use crate::record::{Element, Group, Shelf, Thresholds};
 use std::iter::zip;
 
-const CODE: u8 = 0x05;
+pub const CODE: u8 = 0x05;
 const RESERVED_IN_BYTE1: u8 = 0xFF;
 
 /// The shelf after the page. Refusals 2, 3, 4, 12, 5 to 8.

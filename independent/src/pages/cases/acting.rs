@@ -2,7 +2,7 @@
 
 use super::case::{Case, Offer, ROOM};
 use super::changes::{change, flip_bit, of_every_length, strange_page, with_every_value};
-use super::flaws::{offending, together, Attempt, Flaws};
+use super::flaws::{offending, together, Attempt, Flaw, Flaws};
 use super::shapes::{between_two, one_of_each, shelf, some_of_each};
 use crate::cases::{malformed_block, LONG_BLOCK};
 use crate::limits::{element_page_bytes, TYPES_AT};
@@ -106,11 +106,7 @@ impl Actor {
             offer(self.random_bytes(rng));
         }
         for _ in 0..10 {
-            let attempt = |rng: &mut Rng| {
-                let shelf = some_of_each(rng);
-                self.attempt(rng, shelf)
-            };
-            together(rng, self.flaws, attempt, offer);
+            self.flaws_together(rng, some_of_each, offer);
         }
         self.every_value_of_every_byte(rng, offer);
         self.every_page_length(rng, offer);
@@ -124,7 +120,24 @@ impl Actor {
         offending(rng, self.flaws, attempt)
     }
 
-    fn changed_page(&self, rng: &mut Rng) -> Case {
+    /// The reasons for all refusals in every combination, the first of them in the lowest place of its number.
+    pub fn flaws_together(&self, rng: &mut Rng, of: fn(&mut Rng) -> Shelf, offer: Offer) {
+        let attempt = |rng: &mut Rng| {
+            let shelf = of(rng);
+            self.attempt(rng, shelf)
+        };
+        together(rng, self.flaws, attempt, offer);
+    }
+
+    /// A page with this flaw alone.
+    pub fn flawed(&self, rng: &mut Rng, flaw: Flaw) -> Case {
+        let shelf = some_of_each(rng);
+        let mut attempt = self.attempt(rng, shelf);
+        flaw(&mut attempt, rng);
+        attempt.case
+    }
+
+    pub fn changed_page(&self, rng: &mut Rng) -> Case {
         let shelf = shelf(rng);
         let mut page = (self.accepted)(rng, &shelf);
         match rng.range(0, 15) {

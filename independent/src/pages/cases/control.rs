@@ -13,7 +13,7 @@ use std::array::from_fn;
 
 const SELECT: u32 = 0x8000_0000;
 
-static CONTROL: Actor = Actor {
+pub static CONTROL: Actor = Actor {
     call: &APPLY_CONTROL,
     code: 0x02,
     accepted: accepted_page,

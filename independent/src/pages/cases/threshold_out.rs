@@ -12,7 +12,7 @@ use crate::rng::Rng;
 use std::array::from_fn;
 use std::iter::zip;
 
-static THRESHOLD_OUT: Actor = Actor {
+pub static THRESHOLD_OUT: Actor = Actor {
     call: &APPLY_THRESHOLDS,
     code: 0x05,
     accepted: accepted_page,

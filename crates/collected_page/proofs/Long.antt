@@ -73,17 +73,18 @@ module _ (s p : List ℕ) (l : mostKept < length p) where
       (ap (λ (a : Answer). next a (generationTested s p)) (length-refused w))
       ∙ next-next (codeTested p code) (givenTested p (length p)) (Refused NeededLength))
 
+  long-page : (code : ℕ) (own : PageAnswer)
+      → pageNext (pageTested s p code) own ≡ ofPage (next (shelfTested s) (next (codeTested p code) (next (givenTested p (length p)) (Refused NeededLength))))
+  long-page code own =
+      ap (λ (a : Answer). pageNext a own) (long-head code) ∙ no-more NeededLength (shelfTested s) (codeTested p code) (givenTested p (length p)) own
+
   long-control : control.controlTested s p ≡ ofPage (longTested s p (length p) 0x02)
   unfolding control.controlTested longTested meantCode
-  long-control =
-      let own = control.bytesTested s p (slotsOf s) in
-      ap (λ (a : Answer). pageNext a own) (long-head 0x02) ∙ no-more NeededLength (shelfTested s) (codeTested p 0x02) (givenTested p (length p)) own
+  long-control = long-page 0x02 (control.bytesTested s p (slotsOf s))
 
   long-thresholds : thresholds.thresholdsTested s p ≡ ofPage (longTested s p (length p) 0x05)
   unfolding thresholds.thresholdsTested longTested meantCode
-  long-thresholds =
-      let own = thresholds.bytesTested s p (slotsOf s) in
-      ap (λ (a : Answer). pageNext a own) (long-head 0x05) ∙ no-more NeededLength (shelfTested s) (codeTested p 0x05) (givenTested p (length p)) own
+  long-thresholds = long-page 0x05 (thresholds.bytesTested s p (slotsOf s))
 
   long-other : (code : ℕ) → eqb code 0x02 ≡ false → eqb code 0x05 ≡ false → otherTested s p ≡ longTested s p (length p) code
   unfolding otherTested longTested meantCode

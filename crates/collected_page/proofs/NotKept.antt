@@ -7,28 +7,23 @@ use native.Mathlib.Omega.{arith}
 use lib.Dec.{eqb, leb}
 use lib.ListN.{length, getD}
 use lib.Seq.{ext-getD}
-use borrow.Author.Tests.{leb-true, leb-false, ne-eqb}
+use borrow.Author.Tests.{leb-true, leb-false}
 use Rattle.bits.specs.Numbers.{big, Bytes}
 use Rattle.bits.specs.Places.{twoAt}
 use Rattle.bits.proofs.Logic.{by-case}
 use Rattle.bits.proofs.Each.{byte-small}
 use Rattle.refusals.specs.Outcomes.{ofPage}
 use Rattle.page.specs.Header.{says}
-use Rattle.collector.specs.Collector.{mostKept, mostCounted, atMost, AlikeKept}
-use Rattle.collector.proofs.Counts.{below-most, from-most, most-bound, still-below}
+use Rattle.page.proofs.HeaderTests.{says-most}
+use Rattle.collector.specs.Collector.{mostKept, mostCounted, AlikeKept}
+use Rattle.collector.proofs.Counts.{from-most, most-bound, still-below, counts-back}
 use Rattle.collected_page.specs.Meant.{meantTested, meantAfter, longTested}
 use Rattle.collected_page.proofs.Long.{long-tested, long-after, by-front}
 
--- a count that did not stop tells the length
-counts-back : (a b m : ℕ) → a < m → atMost a m ≡ atMost b m → b ≡ a
-counts-back a b m l e =
-    by-case (leb b m)
-    (λ t. let h = leb-true b m t in sym (below-most b m h) ∙ sym e ∙ below-most a m (omega arith))
-    (λ t. let h = leb-false b m t in absurd (omega (arith, e, below-most a m (omega arith), from-most b m (omega arith))))
-
 -- no page says as many bytes as are counted at most
 says-fewer : (p : List ℕ) → Bytes p → (n : ℕ) → mostCounted ≤ n → says p n ≡ false
-says-fewer p h n l = ne-eqb n (big (twoAt p 2) + 4) (λ e. let a = byte-small p h 2 in let b = byte-small p h 3 in omega (arith, a, b, e, l))
+says-fewer p h n l =
+    by-case (says p n) (λ t. let m = says-most p n (byte-small p h 2) (byte-small p h 3) t in absurd (omega (arith, l, m))) (λ t. t)
 
 module _ (s p q : List ℕ) (h : Bytes p) (e : AlikeKept p q) (code : ℕ) where
   abbrev Same : Type 0

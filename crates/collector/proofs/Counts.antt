@@ -43,6 +43,13 @@ counts-on a b m =
     let h = leb-false a m e in
     ap (λ (n : ℕ). atMost (n + b) m) (pick-no (leb a m) a m e) ∙ from-most (m + b) m (omega arith) ∙ sym (from-most (a + b) m (omega arith)))
 
+-- a count that did not stop tells the length
+pub counts-back : (a b m : ℕ) → a < m → atMost a m ≡ atMost b m → b ≡ a
+counts-back a b m l e =
+    by-case (leb b m)
+    (λ t. let h = leb-true b m t in sym (below-most b m h) ∙ sym e ∙ below-most a m (omega arith))
+    (λ t. let h = leb-false b m t in absurd (omega (arith, e, below-most a m (omega arith), from-most b m (omega arith))))
+
 -- the first bytes of a list, as far as there are so many
 pub first-bytes : (x : List ℕ) (m : ℕ) → bytesAt x 0 (atMost (length x) m) ≡ take m x
 first-bytes x m =

@@ -27,11 +27,11 @@ Holds c p =
 
 -- another count
 module _ (c : List ℕ) (h : HasRoom c) (n : ℕ) where
-  pub counted-room : HasRoom (counted c n)
+  counted-room : HasRoom (counted c n)
   unfolding counted
   counted-room = length-put c 0 (bytes 4 n) ∙ h
 
-  pub count-is : n ≤ mostCounted → countOf (counted c n) ≡ n
+  count-is : n ≤ mostCounted → countOf (counted c n) ≡ n
   unfolding countOf counted
   count-is l =
       ap (λ (f : List ℕ). atMost (big f) mostCounted) (put-back c 0 _ _ _ _ (omega (arith, h)))
@@ -42,13 +42,13 @@ module _ (c : List ℕ) (h : HasRoom c) (n : ℕ) where
   unfolding counted
   room-stays i = put-other c 0 (bytes 4 n) (roomPlace + i) (inr (omega arith))
 
--- nothing put yet is a page without bytes
-pub holds-nothing : (c : List ℕ) → HasRoom c → Holds (emptied c) []
-holds-nothing c h = (counted-room c h 0, count-is c h 0 (omega arith), (λ i l m. absurd (omega arith)))
-
--- and a collector that counts none holds it, whatever stands in its room
+-- a collector that counts none holds a page without bytes, whatever stands in its room
 pub holds-none : (c : List ℕ) → HasRoom c → countOf c ≡ 0 → Holds c []
 holds-none c h e = (h, e, (λ i l m. absurd (omega arith)))
+
+-- and so it does once it is emptied
+pub emptied-counts : (c : List ℕ) → HasRoom c → HasRoom (emptied c) × (countOf (emptied c) ≡ 0)
+emptied-counts c h = (counted-room c h 0, count-is c h 0 (omega arith))
 
 -- a chunk put
 module _ (c x : List ℕ) (h : HasRoom c) where

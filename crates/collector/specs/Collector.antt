@@ -10,14 +10,15 @@ use Rattle.bits.specs.Places.{fourAt, putFour}
 use Rattle.bits.specs.Rows.{bytesAt, putBytes}
 use Rattle.shelf.specs.Limits.{mostTypes, mostElements}
 use Rattle.page.specs.Slots.{slotPlace}
+use Rattle.page.specs.Header.{mostSaid}
 
 -- so many bytes are kept: those of the largest page
 abbrev pub mostKept : ℕ
 mostKept = slotPlace (mostTypes + mostElements)
 
--- and so many are counted: a page with FFFFh in its length field has one fewer
+-- and so many are counted, 65,540: one more than a page can say
 abbrev pub mostCounted : ℕ
-mostCounted = 65540
+mostCounted = mostSaid + 1
 
 -- the count has four bytes; behind them is the room
 abbrev pub roomPlace : ℕ

@@ -7,12 +7,10 @@ use Prim.Native.Nat.{ℕ, _+_, _-_, _/_, _%_, _<_, _≤_}
 use native.Mathlib.Omega.{arith}
 use lib.Dec.{leb}
 use lib.ListN.{length, getD}
-use borrow.Author.Tests.{lt-ltb, le-ltb, le-leb, leb-true, leb-false, eq-eqb, ne-eqb, eqb-true}
+use borrow.Author.Tests.{lt-ltb, le-ltb, le-leb, leb-true, leb-false, eq-eqb, ne-eqb}
 use mir.Val.{Fits}
 use mir.Syntax.{w8, w32}
 use Rattle.bits.specs.Choice.{firstBelow}
-use Rattle.bits.specs.Numbers.{big}
-use Rattle.bits.specs.Places.{twoAt}
 use Rattle.bits.proofs.Logic.{pick-yes, pick-no}
 use Rattle.bits.proofs.RowStarts.{start-behind}
 use Rattle.refusals.specs.declared.Refusal.the-variants.{NeededLength}
@@ -25,7 +23,7 @@ use Rattle.refusals.specs.Outcomes.{ofPage, offenceTested, pageNext}
 use Rattle.refusals.proofs.AcceptedTests.{held, not-held, held-page, held-offence}
 use Rattle.refusals.proofs.Stages.{page-stopped, page-gone-on}
 use Rattle.page.specs.Header.{lengthSaid, framed, lengthTested}
-use Rattle.page.proofs.HeaderTests.{frame-passed, length-passed, length-needed}
+use Rattle.page.proofs.HeaderTests.{frame-passed, says-most, length-passed, length-needed}
 use Rattle.page.proofs.HeaderBothWays.{frame-parts}
 use Rattle.configuration_page.specs.Page.{headerPlace}
 use Rattle.configuration_page.specs.Read.{typesOn, headerByte, neededLength, fixedOffends, headerOffends, textOffends, offends, firstOffence, roomTested, bytesTested, configurationRead}
@@ -78,7 +76,7 @@ module _ (p : List ℕ) {n : ℕ} {a : Answer} (h : a ≡ roomTested p n) where
 -- a length that two bytes say
 pub length-small : (p : List ℕ) → ((i : ℕ) → Fits w8 (getD p i 0)) → lengthSaid p ≡ true → Fits w32 (length p)
 unfolding lengthSaid
-length-small p f e = record { fits = omega (arith, eqb-true (length p) (big (twoAt p 2) + 4) e, f 2 .fits, f 3 .fits) }
+length-small p f e = record { fits = omega (arith, says-most p (length p) (f 2 .fits) (f 3 .fits) e) }
 
 -- the page's own tests
 pub bytes-tested : (p : List ℕ) {n k : ℕ} {r : PageAnswer} → length p ≡ n → k ≡ firstBelow (offends p) n → r ≡ offenceTested k n Accepted → r ≡ bytesTested p

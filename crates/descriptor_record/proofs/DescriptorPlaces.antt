@@ -9,23 +9,21 @@ use native.Mathlib.Numerals.{add-one}
 use native.Mathlib.Omega.{arith}
 use lib.Dec.{eqb, ltb}
 use lib.ListN.{length, getD}
-use borrow.Author.Tests.{lt-ltb, le-ltb, eqb-true, ne-eqb}
+use borrow.Author.Tests.{lt-ltb, le-ltb, ne-eqb}
 use Rattle.bits.proofs.Logic.{pick-yes, pick-no}
 use Rattle.bits.proofs.Ends.{part-is}
 use mir.Val.{Fits}
 use mir.Syntax.{w8}
-use Rattle.bits.specs.Numbers.{big}
-use Rattle.bits.specs.Places.{twoAt}
 use Rattle.refusals.specs.declared.Refusal.the-variants.{NeededLength}
 use Rattle.refusals.specs.declared.Answer.the-variants.{Refused}
-use Rattle.page.specs.Header.{lengthSaid, lengthTested}
-use Rattle.page.proofs.HeaderTests.{length-differs}
-use Rattle.descriptor_record.specs.Read.{mostSaid, declared, placeOn, descriptorOf, byteOffends, offends}
+use Rattle.page.specs.Header.{mostSaid, lengthSaid, lengthTested}
+use Rattle.page.proofs.HeaderTests.{says-most, length-differs}
+use Rattle.descriptor_record.specs.Read.{declared, placeOn, descriptorOf, byteOffends, offends}
 
 -- a page whose length is said has no more bytes than two can say
 pub said-small : (p : List ℕ) → ((i : ℕ) → Fits w8 (getD p i 0)) → lengthSaid p ≡ true → length p ≤ mostSaid
 unfolding lengthSaid
-said-small p f e = omega (arith, eqb-true (length p) (big (twoAt p 2) + 4) e, f 2 .fits, f 3 .fits)
+said-small p f e = says-most p (length p) (f 2 .fits) (f 3 .fits) e
 
 -- nor does a descriptor declare more
 pub declared-small : (p : List ℕ) → ((i : ℕ) → Fits w8 (getD p i 0)) → (k : ℕ) → declared p k ≤ 65535

@@ -28,14 +28,14 @@ use Rattle.record_head.specs.Head.{recordHead}
 use Rattle.shelf.specs.Limits.{mostTypes, mostElements, mostText}
 use Rattle.shelf_formed.specs.Formed.{HasFront, configurationFormed}
 use Rattle.page.specs.Slots.{slotsOf}
-use Rattle.page.specs.Header.{lengthSaid, generationOn, generationOf, framed, lengthTested, generationTested}
+use Rattle.page.specs.Header.{mostSaid, lengthSaid, generationOn, generationOf, framed, lengthTested, generationTested}
 use Rattle.page.proofs.HeaderTests.{length-needed, generation-tested}
 use Rattle.page.proofs.HeaderBothWays.{frame-parts}
 use Rattle.page.proofs.SlotBounds.{configuration-there, configuration-passed, slots-bound}
 use Rattle.names.specs.Name.{isName, printableAt, padded}
 use Rattle.names.proofs.NameBack.{length-padded}
 use Rattle.descriptor_record.specs.Rewritten.{entryPlace}
-use Rattle.descriptor_record.specs.Read.{mostSaid, declared, placeOn, byteOffends, offends, headTested, bytesTested, pageTested, namesRead, nameOn, namesRecord}
+use Rattle.descriptor_record.specs.Read.{declared, placeOn, byteOffends, offends, headTested, bytesTested, pageTested, namesRead, nameOn, namesRecord}
 use Rattle.descriptor_record.proofs.DescriptorPlaces.{said-small, place-up, place-in, offends-in, offends-first}
 use Rattle.descriptor_record.proofs.FirstOffence.{offends-zero, offends-length, offends-text}
 

@@ -20,10 +20,6 @@ use Rattle.page.specs.Slots.{slotsOf}
 use Rattle.page.specs.Header.{configurationTested, framed, lengthTested, generationTested}
 use Rattle.names.specs.Name.{padded}
 
--- a page says its length in two bytes, so it has no more than these
-abbrev pub mostSaid : ℕ
-mostSaid = 65539
-
 -- the length of the text that the descriptor at k declares
 unfoldable pub declared : List ℕ → ℕ → ℕ
 declared p k = big (twoAt p (k + 2))

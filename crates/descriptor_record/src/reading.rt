@@ -22,10 +22,10 @@ ghost use Rattle.refusals.specs.declared.PageAnswer.the-variants.{Accepted};
 ghost use Rattle.refusals.specs.Outcomes.{placed, HandsBack};
 ghost use Rattle.shelf.specs.Limits.{mostTypes, mostElements, mostText, HasTypes};
 ghost use Rattle.page.specs.Slots.{slotsOf};
-ghost use Rattle.page.specs.Header.{lengthSaid, lengthTested};
+ghost use Rattle.page.specs.Header.{mostSaid, lengthSaid, lengthTested};
 ghost use Rattle.names.specs.Name.{padded};
 ghost use Rattle.descriptor_record.specs.Rewritten.{entryPlace};
-ghost use Rattle.descriptor_record.specs.Read.{mostSaid, declared, placeOn, byteOffends, offends, headTested, bytesTested, pageTested, namesRead, nameOn, namesRecord};
+ghost use Rattle.descriptor_record.specs.Read.{declared, placeOn, byteOffends, offends, headTested, bytesTested, pageTested, namesRead, nameOn, namesRecord};
 
 // A record of names has room for an entry of each slot.
 pub const LENGTH: usize = FIRST_ENTRY as usize

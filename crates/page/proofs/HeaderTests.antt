@@ -2,13 +2,13 @@
 use mathlib.Core.Path.{_≡_, refl, sym, ap, _∙_}
 use mathlib.Core.Bool.{true}
 use mathlib.Core.List.{List, [], _∷_}
-use Prim.Native.Nat.{ℕ, _-_, _≤_}
+use Prim.Native.Nat.{ℕ, _+_, _-_, _<_, _≤_}
 use native.Mathlib.Omega.{arith}
 use lib.Dec.{eqb, leb}
 use lib.ListN.{length, getD}
 use borrow.Author.Tests.{leb-true, eq-eqb, ne-eqb, eqb-true}
-use Rattle.bits.specs.Numbers.{bytes}
-use Rattle.bits.specs.Places.{fourAt, putFour}
+use Rattle.bits.specs.Numbers.{big, bytes}
+use Rattle.bits.specs.Places.{twoAt, fourAt, putFour}
 use Rattle.bits.proofs.FourPut.{length-put}
 use Rattle.bits.proofs.RowsPut.{four-behind}
 use Rattle.refusals.specs.declared.Refusal.the-variants.{ShelfNotWellFormed, PageTooShort, Generation, NeededLength}
@@ -22,7 +22,7 @@ use Rattle.shelf.specs.Limits.{HasTypes}
 use Rattle.shelf_formed.specs.Formed.{wellFormed}
 use Rattle.shelf_formed.proofs.ElementPut.{length-formed}
 use Rattle.page.specs.Slots.{slotsOf, slotPlace}
-use Rattle.page.specs.Header.{shelfTested, pageTested, lengthSaid, generationOn, generationOf, sizeTested, codeTested, givenTested, saidTested, framed, lengthTested, generationTested, headed, headOf, headOfPut, header, headPut}
+use Rattle.page.specs.Header.{shelfTested, pageTested, says, mostSaid, lengthSaid, generationOn, generationOf, sizeTested, codeTested, givenTested, saidTested, framed, lengthTested, generationTested, headed, headOf, headOfPut, header, headPut}
 
 -- the frame
 module _ (p : List ℕ) (code : ℕ) where
@@ -51,6 +51,10 @@ module _ (p : List ℕ) (code : ℕ) where
         pub said-last : {d : Answer} → b ≡ Accepted → d ≡ givenTested p (length p) → d ≡ framed p code
         unfolding framed saidTested
         said-last v q = gone-on (sizeTested p) named h u (gone-on (codeTested p code) (saidTested p) k v q)
+
+-- no page says more bytes than its length field can
+pub says-most : (p : List ℕ) (n : ℕ) → getD p 2 0 < 256 → getD p 3 0 < 256 → says p n ≡ true → n ≤ mostSaid
+says-most p n a b e = omega (arith, eqb-true n (big (twoAt p 2) + 4) e, a, b)
 
 -- the length that the type list needs
 module _ (p : List ℕ) (n : ℕ) where

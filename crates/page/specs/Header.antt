@@ -26,7 +26,11 @@ configurationTested c = unless (configurationFormed c) ShelfNotWellFormed Accept
 abbrev pub says : List ℕ → ℕ → Bool
 says p n = eqb n (big (twoAt p 2) + 4)
 
--- the bytes given are as many
+-- two bytes say the length, so a page has no more than these
+abbrev pub mostSaid : ℕ
+mostSaid = 65539
+
+-- the bytes given are as many as the page says
 unfoldable pub lengthSaid : List ℕ → Bool
 lengthSaid p = says p (length p)
 

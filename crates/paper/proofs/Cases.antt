@@ -47,7 +47,7 @@ use Rattle.refusals.specs.declared.PageAnswer.{PageAnswer}
 use Rattle.refusals.specs.Numbers.{numberOf, pageNumber, pageOffset}
 use Rattle.refusals.specs.Outcomes.{next, ofPage, offenceTested, pageNext, accepts}
 use Rattle.collector.specs.Collector.{mostKept, mostCounted, atMost, pageOf, collectedAll, emptied}
-use Rattle.collector.proofs.Held.{Holds as Collects, holds-nothing, holds-chunks, count-collected, held-alike}
+use Rattle.collector.proofs.Held.{Holds as Collects, holds-none, emptied-counts, holds-chunks, count-collected, held-alike}
 use Rattle.collected_page.specs.Meant.{otherTested, meantTested, meantCode, longTested}
 use Rattle.collected_page.proofs.Long.{long-tested}
 use Rattle.collected_page.proofs.NotKept.{front-decides}
@@ -295,7 +295,8 @@ module _ (i m f : List ℕ) where
     unfolding given told
     ends-so code n k e c xs h j =
         let d = collectedAll (emptied c) xs in
-        let held : Collects d q = subst (Collects d) j (holds-chunks xs (emptied c) [] (holds-nothing c h)) in
+        let none-yet = emptied-counts c h in
+        let held : Collects d q = subst (Collects d) j (holds-chunks xs (emptied c) [] (holds-none (emptied c) (none-yet .0) (none-yet .1))) in
         let bytes = each-append (λ b. b < 256) x (replicate z 0) (are-bytes x (yes (allBytes x) (number 1 e))) (zeros z) in
         let a = sym (front-decides s q (pageOf d) bytes (held-alike d q held) code .0) ∙ meant code (yes (shelfRest s) (number 0 e)) in
         (ap pageNumber a ∙ number 2 e, ap pageOffset a ∙ number 3 e)

@@ -3,11 +3,10 @@
 use mathlib.Core.Path.{_≡_, sym, ap, subst, _∙_}
 use mathlib.Core.List.{List, [], _∷_}
 use Prim.Native.Nat.{ℕ}
-use native.Mathlib.Omega.{arith}
 use Rattle.bits.specs.Numbers.{Bytes}
 use Rattle.refusals.specs.declared.PageAnswer.{PageAnswer}
 use Rattle.collector.specs.Collector.{HasRoom, pageOf, AlikeKept, collectedAll}
-use Rattle.collector.proofs.Held.{Holds, holds-none, holds-chunks, held-alike, counted-room, count-is}
+use Rattle.collector.proofs.Held.{Holds, holds-none, holds-chunks, held-alike, emptied-counts}
 use Rattle.collected_page.proofs.NotKept.{front-decides}
 use Rattle.promises.specs.Promises.{ApplyControl, ApplyThresholds, EmptyCollector, Meant, EndPage}
 use Rattle.promises.specs.PromisesForC.{ApplyControlForC, ApplyThresholdsForC, EndPageForC}
@@ -33,7 +32,7 @@ thresholds-not-kept s p q b a h = not-told-apart 0x05 s p q b a h
 
 -- an empty collector is made by its call, and left by the end call, whatever that answers
 pub emptied-first : (c : List ℕ) {d : List ℕ} → HasRoom c → EmptyCollector c d → Empty d
-emptied-first c h e = subst Empty (sym e) (counted-room c h 0, count-is c h 0 (omega arith))
+emptied-first c h e = subst Empty (sym e) (emptied-counts c h)
 
 pub emptied-at-end : (c s : List ℕ) (code : ℕ) {r : PageAnswer} {d o : List ℕ} → HasRoom c → EndPage c s code r d o → Empty d
 emptied-at-end c s code h e = emptied-first c h (e .1)

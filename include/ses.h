@@ -102,8 +102,10 @@ static inline const char *ses_meaning(uint8_t number)
  * its type lays out: the fields of bytes 1 to 3 of the element in page order, then zeros. Flags are 0 or 1; a
  * number of two bytes has its high byte first. An overall element shows its code alone, all else is zero.
  * For a fan that is not ON a shelf shows speed code 0, whatever SPEED it stores; that stays, and shows again
- * once the fan is ON. Written again, a byte `none` that is not zero is a field set where the type shows none
- * (6). */
+ * once the fan is ON. For a sensor it shows FAIL if it stores FAIL or the code is 2 or 3. A control page changes
+ * the stored one alone, so one that clears it leaves FAIL showing while a limit is tripped. A reader hands back
+ * what the page shows: settings to want come from the shelf block, not from an entry. Written again, a byte
+ * `none` that is not zero is a field set where the type shows none (6). */
 struct ses_cooling {
     uint8_t ident, speed[2], fail, rqsted_on, off, speed_code, none[5];
 };

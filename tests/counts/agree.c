@@ -1,8 +1,9 @@
 /* agree ROUNDS: every call on random shelves, pages, records, wishes, names and chunks, good and spoilt, by the library and by plain
  * C. Both get the same memory and must leave the same: answers, lengths, offsets, elements found and every lent byte. A page in
  * chunks must do what it does as a whole. Each answer that a call can give must come up, each byte of a page must be told as the
- * first offending one and each byte of a record's entry be the reason of a refusal, texts of each kind be found and not be found, if
- * they can, and chunks of each kind be put. The random numbers are the same in every run. */
+ * first offending one and each byte of a record's entry be the reason of a refusal, elements be written and read with each code
+ * and FAIL, texts of each kind be found and not be found, if they can, and chunks of each kind be put. The random numbers are the
+ * same in every run. */
 #include "plain.h"
 
 #include <stdio.h>
@@ -98,27 +99,33 @@ static const struct {
 
 static unsigned given[CALLS][ANSWERS], told_at[CALLS][REGIONS][LONGEST_REGION];
 
-/* The entries of a status record by what they stand for, and the bytes of each that may have any value. How often the record was
- * refused for each byte of them, because it was one too large. */
+/* The entries of a status record by what they stand for, the bytes of each that may have any value, and the codes that a shelf gives
+ * to elements, a bit for each. How often the record was refused for each byte of them, because it was one too large. */
 enum { SORTS = 5, ENTRY_LENGTH = sizeof(struct ses_shown) };
 
 #define BYTE(field) (1u << offsetof(struct ses_shown, of.field))
 
 static const struct {
     const char *name;
-    unsigned any_value;
+    unsigned any_value, codes;
 } sorts[SORTS] = {
-    {"overall", 0},
-    {"cooling", BYTE(cooling.speed[1])},
-    {"temperature", BYTE(temperature.temperature)},
-    {"voltage", BYTE(voltage.voltage[0]) | BYTE(voltage.voltage[1])},
-    {"current", BYTE(current.current[0]) | BYTE(current.current[1])},
+    {"overall", 0, 0},
+    {"cooling", BYTE(cooling.speed[1]), 1u << 1 | 1u << 2},
+    {"temperature", BYTE(temperature.temperature), 1u << 1 | 1u << 2 | 1u << 3 | 1u << 6},
+    {"voltage", BYTE(voltage.voltage[0]) | BYTE(voltage.voltage[1]), 1u << 1 | 1u << 2 | 1u << 3},
+    {"current", BYTE(current.current[0]) | BYTE(current.current[1]), 1u << 1 | 1u << 2 | 1u << 3},
 };
 
 static unsigned refused_for[SORTS][ENTRY_LENGTH];
 
 /* The same for a record of names, whose entries are all of one sort. */
 static unsigned name_refused_for[SES_NAME_LENGTH];
+
+/* How often an element of each sort had each code on a page that was written, with FAIL not stored and stored; and on one that was
+ * read, with FAIL not shown and shown. Spoilt shelves and pages have a few by chance. */
+enum { CODES = 9, FEW = 100 };
+
+static unsigned written_with[SORTS][CODES][2], read_with[SORTS][CODES][2];
 
 /* The texts to find, by how they come from the names of a shelf, and whether a name can be equal to one. How often each was not
  * found, and found. */
@@ -480,15 +487,19 @@ static void make_odd_configuration_page(void)
     put_page_length();
 }
 
-/* Fans whose ON, OFF and speed code do not go together: no shelf shows them, and they are read all the same. */
-static void make_odd_fans(void)
+/* Fans whose ON, OFF and speed code do not go together, and elements whose code and FAIL do not: no shelf shows them, and they are
+ * read all the same. */
+static void make_odd_elements(void)
 {
     uint8_t *slot = start.page + 8;
     for (unsigned t = 0; t < good[40]; t++, slot += 4)
         for (unsigned i = 0; i < good[45 + 36 * t]; i++) {
             slot += 4;
+            slot[0] = (uint8_t)((slot[0] & 0x70) | below(CODES));
             if (good[44 + 36 * t] == COOLING)
                 slot[3] = (uint8_t)(below(8) << 4 | below(8));
+            else
+                slot[1] ^= (uint8_t)(below(2) << 6);
         }
 }
 
@@ -620,6 +631,29 @@ static void count_refused_byte(size_t at)
         refused_for[sort_of_entry(good, (at - 4) / ENTRY_LENGTH)][(at - 4) % ENTRY_LENGTH]++;
 }
 
+/* FAIL of settings, and of a status element. */
+static unsigned fail_in(const uint8_t *bytes, unsigned sort)
+{
+    return bytes[sort == 1 ? 3 : 1] >> 6 & 1;
+}
+
+/* Counts the elements of a page by their codes and by FAIL: the stored one if there are stored elements, else that of the page. */
+static void count_fails(unsigned counts[SORTS][CODES][2], const uint8_t *front, const uint8_t *page, const uint8_t *element)
+{
+    unsigned slots = front[40];
+    for (unsigned t = 0; t < front[40]; t++)
+        slots += front[45 + 36 * t];
+    for (unsigned i = 0; i < slots; i++) {
+        const uint8_t *slot = page + 8 + 4 * i;
+        unsigned sort = sort_of_entry(front, i);
+        if (sort == 0)
+            continue;
+        counts[sort][slot[0] & 0x0F][fail_in(element == NULL ? slot : element, sort)]++;
+        if (element != NULL)
+            element += 16;
+    }
+}
+
 static void compare_configuration(void)
 {
     choose_out_length();
@@ -637,14 +671,18 @@ static void compare_status(void)
 {
     choose_out_length();
     BOTH(WRITE_STATUS, write_status, SHELF, OUT);
+    if (plain.answer == SES_ACCEPTED)
+        count_fails(written_with, start.shelf, plain.out, start.shelf + SES_CONFIGURATION_LENGTH);
     make_page(ses_write_status);
     if (one_in(4))
-        make_odd_fans();
+        make_odd_elements();
     struct ses_status record = start.status;
     uint32_t offset;
     ses_read_status(good, SES_CONFIGURATION_LENGTH, start.page, page_length, &record, &offset);
     spoil_page();
     BOTH_TELL(READ_STATUS, read_status, start.configuration, CONFIGURATION, PAGE, &at->status);
+    if (plain.answer == SES_ACCEPTED)
+        count_fails(read_with, start.configuration, start.page, NULL);
     start.status = record;
     size_t in_use = 4 + ENTRY_LENGTH * (good[40] + elements);
     size_t spoilt = one_in(2) ? pass_limit_in_entry() : spoil_record(&start.status, in_use);
@@ -1018,6 +1056,23 @@ static int all_refused(void)
     return right;
 }
 
+/* Each code that a shelf gives was written with FAIL not stored and stored, and no other; any was read with FAIL 0 and 1. */
+static int all_shown(void)
+{
+    int right = 1;
+    for (unsigned sort = 1; sort < SORTS; sort++)
+        for (unsigned code = 0; code < CODES; code++)
+            for (unsigned fail = 0; fail < 2; fail++) {
+                unsigned wrote = written_with[sort][code][fail], read = read_with[sort][code][fail];
+                if ((sorts[sort].codes >> code & 1 ? wrote > FEW : wrote == 0) && read > FEW)
+                    continue;
+                fprintf(stderr, "agree: a %s element with code %u and FAIL %u was written %u times and read %u times\n",
+                        sorts[sort].name, code, fail, wrote, read);
+                right = 0;
+            }
+    return right;
+}
+
 /* Each byte of an entry of names can be. */
 static int all_names_refused(void)
 {
@@ -1097,7 +1152,7 @@ int main(int argc, char **argv)
         compare_names();
         compare_chunks();
     }
-    if (!(all_given() & all_told() & all_refused() & all_names_refused() & all_found() & all_ended() & all_long()))
+    if (!(all_given() & all_told() & all_refused() & all_shown() & all_names_refused() & all_found() & all_ended() & all_long()))
         return 1;
     printf("The library and plain C agree on %ld random shelves and their pages. How often each call gave each answer:\n", rounds);
     print_given();

@@ -27,6 +27,7 @@ enum { OK = 1, CRITICAL = 2, NONCRITICAL = 3, NOT_KNOWN = 6, HIGHEST_CODE = 8 };
 #define FAN_ON 0x00000020u
 #define FAN_OFF 0x00000010u
 #define SPEED 0x00000007u
+#define SENSOR_FAIL 0x00400000u
 #define FAN_SETTINGS 0x70800067u
 #define SENSOR_SETTINGS 0x70C00000u
 #define TAKEN 0x60C00060u /* PRDFAIL, DISABLED, IDENT, both places of FAIL, ON: what settings take from a control element */
@@ -363,20 +364,23 @@ uint8_t plain_read_configuration(const uint8_t *page, size_t page_length,
 
 /* The status page. */
 
-static uint32_t code_of(bool critical, bool warning)
-{
-    return critical ? CRITICAL : warning ? NONCRITICAL : OK;
-}
-
 /* A fan that is not ON shows its settings without SPEED. */
 static uint32_t fan_status(uint32_t settings, unsigned reading)
 {
     if ((settings & FAN_ON) == 0)
         return (settings & ~SPEED) | (uint32_t)OK << 24 | reading << 8 | FAN_OFF;
-    return settings | code_of(reading == 0, false) << 24 | reading << 8;
+    return settings | (uint32_t)(reading == 0 ? CRITICAL : OK) << 24 | reading << 8;
 }
 
 /* What the status element of a sensor shows beside its settings. */
+
+/* Its code, and FAIL if a limit is tripped, stored or not. */
+static uint32_t sensor_code(bool critical, bool warning)
+{
+    if (critical)
+        return (uint32_t)CRITICAL << 24 | SENSOR_FAIL;
+    return warning ? (uint32_t)NONCRITICAL << 24 | SENSOR_FAIL : (uint32_t)OK << 24;
+}
 
 static uint32_t temperature_shows(const uint8_t *limit, unsigned reading)
 {
@@ -384,7 +388,7 @@ static uint32_t temperature_shows(const uint8_t *limit, unsigned reading)
         return (uint32_t)NOT_KNOWN << 24;
     bool over_failure = limit[0] != 0 && reading > limit[0], over_warning = limit[1] != 0 && reading > limit[1];
     bool under_warning = reading < limit[2], under_failure = reading < limit[3];
-    return code_of(over_failure || under_failure, over_warning || under_warning) << 24 | reading << 8 |
+    return sensor_code(over_failure || under_failure, over_warning || under_warning) | reading << 8 |
            (uint32_t)over_failure << 3 | (uint32_t)over_warning << 2 | (uint32_t)under_failure << 1 | under_warning;
 }
 
@@ -399,7 +403,7 @@ static uint32_t voltage_shows(const uint8_t *limit, unsigned reading, int32_t no
     int32_t above = (int16_t)reading - nominal;
     bool critical_over = trips(above, nominal, limit[0]), warning_over = trips(above, nominal, limit[1]);
     bool warning_under = trips(-above, nominal, limit[2]), critical_under = trips(-above, nominal, limit[3]);
-    return code_of(critical_over || critical_under, warning_over || warning_under) << 24 | reading |
+    return sensor_code(critical_over || critical_under, warning_over || warning_under) | reading |
            (uint32_t)warning_over << 19 | (uint32_t)warning_under << 18 | (uint32_t)critical_over << 17 |
            (uint32_t)critical_under << 16;
 }

@@ -142,8 +142,8 @@ void put_sensor(uint8_t shelf[SENSOR_LENGTH], uint8_t type, const uint8_t thresh
 }
 
 /* High critical, high warning, low warning, low critical; reading and nominal; then page byte 1 and the status element, whose code
- * the overall element has too. Bits: OT WARNING 2 of byte 3; WARN OVER 3, CRIT OVER 1 and CRIT UNDER 0 of byte 1. The cases on
- * limits of 1,200 and 350 name no type, and are run for both. */
+ * the overall element has too. Bits: OT WARNING 2 of byte 3; WARN OVER 3, CRIT OVER 1 and CRIT UNDER 0 of byte 1; with codes 2 and
+ * 3 FAIL, 6 of byte 1, by request Five. The cases on limits of 1,200 and 350 name no type, and are run for both. */
 static const struct verdict {
     const char *what;
     uint8_t type, thresholds[4];
@@ -151,16 +151,16 @@ static const struct verdict {
     uint8_t byte_1, element[4];
 } verdicts[] = {
     {"temperature byte 64", TEMPERATURE, {0, 64, 0, 0}, 64, 0, 0x00, {0x01, 0x00, 0x40, 0x00}},
-    {"temperature byte 65", TEMPERATURE, {0, 64, 0, 0}, 65, 0, 0x04, {0x03, 0x00, 0x41, 0x04}},
+    {"temperature byte 65", TEMPERATURE, {0, 64, 0, 0}, 65, 0, 0x04, {0x03, 0x40, 0x41, 0x04}},
     {"1,320 V", VOLTAGE, {20, 0, 0, 0}, 1320, 1200, 0x00, {0x01, 0x00, 0x05, 0x28}},
-    {"1,321 V", VOLTAGE, {20, 0, 0, 0}, 1321, 1200, 0x02, {0x02, 0x02, 0x05, 0x29}},
+    {"1,321 V", VOLTAGE, {20, 0, 0, 0}, 1321, 1200, 0x02, {0x02, 0x42, 0x05, 0x29}},
     {"1,320 A", CURRENT, {20, 0, 0, 0}, 1320, 1200, 0x00, {0x01, 0x00, 0x05, 0x28}},
-    {"1,321 A", CURRENT, {20, 0, 0, 0}, 1321, 1200, 0x02, {0x02, 0x02, 0x05, 0x29}},
+    {"1,321 A", CURRENT, {20, 0, 0, 0}, 1321, 1200, 0x02, {0x02, 0x42, 0x05, 0x29}},
     {"358 V", VOLTAGE, {0, 5, 0, 0}, 358, 350, 0x00, {0x01, 0x00, 0x01, 0x66}},
-    {"359 V", VOLTAGE, {0, 5, 0, 0}, 359, 350, 0x04, {0x03, 0x08, 0x01, 0x67}},
+    {"359 V", VOLTAGE, {0, 5, 0, 0}, 359, 350, 0x04, {0x03, 0x48, 0x01, 0x67}},
     {"358 A", CURRENT, {0, 5, 0, 0}, 358, 350, 0x00, {0x01, 0x00, 0x01, 0x66}},
-    {"359 A", CURRENT, {0, 5, 0, 0}, 359, 350, 0x04, {0x03, 0x08, 0x01, 0x67}},
-    {"-1 V", VOLTAGE, {0, 0, 0, 20}, 0xFFFF, 1200, 0x02, {0x02, 0x01, 0xFF, 0xFF}},
+    {"359 A", CURRENT, {0, 5, 0, 0}, 359, 350, 0x04, {0x03, 0x48, 0x01, 0x67}},
+    {"-1 V", VOLTAGE, {0, 0, 0, 20}, 0xFFFF, 1200, 0x02, {0x02, 0x41, 0xFF, 0xFF}},
 };
 
 static void hold_verdicts(void)

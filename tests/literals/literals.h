@@ -61,6 +61,7 @@ void hold_wish(const struct wish *w);
 
 void hold_fans_a(void);
 void hold_stopped(void);
+void hold_fail_shown(void);
 void hold_names(void);
 void hold_collector(void);
 void hold_refusals(void);

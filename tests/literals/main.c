@@ -78,6 +78,7 @@ int main(int count, char **words)
     }
     hold_fans_a();
     hold_stopped();
+    hold_fail_shown();
     hold_names();
     hold_collector();
     hold_refusals();

@@ -17,7 +17,7 @@ use Rattle.element_control.specs.Control.{selected, offending, settled}
 use Rattle.element_control.proofs.Acting.{settled-formed, settled-twice, settled-none}
 use Rattle.shelf.specs.Limits.{elementPlace}
 use Rattle.shelf.specs.Types.{elementsOf, kindAt}
-use Rattle.shelf.specs.Elements.{settingsAt, thresholdsAt}
+use Rattle.shelf.specs.Elements.{settingsAt, thresholdsAt, readingAt, nominalAt}
 use Rattle.shelf.specs.SettingsList.{settingsIn, storedSettings, withSettings}
 use Rattle.shelf.proofs.SettingsList.{settings-place}
 use Rattle.shelf_formed.specs.Formed.{wellFormed}
@@ -25,7 +25,7 @@ use Rattle.shelf_formed.proofs.ElementPut.{room}
 use Rattle.shelf_formed.proofs.ElementTypes.{front-formed}
 use Rattle.shelf_formed.proofs.FormedShelf.{in-element}
 use Rattle.shelf_formed.proofs.FrontOfShelf.{front, elements-alike}
-use Rattle.shelf_formed.proofs.ElementsPut.{length-same, front-same, four-same, row-put, element-same, rows-unmoved, formed-same}
+use Rattle.shelf_formed.proofs.ElementsPut.{length-same, front-same, four-same, reading-same, nominal-same, row-put, element-same, rows-unmoved, formed-same}
 use Rattle.page.specs.declared.places.Places.{Places}
 use Rattle.page.specs.declared.slots.Slot.{Slot}
 use Rattle.page.specs.Slots.{slotsOf, slotPlace}
@@ -55,9 +55,18 @@ module _ (s p : List ℕ) where
   unfolding withSettings
   configuration-kept = front-same elementPlace 0 settings-place (omega arith) f s n (valid s p)
 
-  thresholds-kept : (j : ℕ) → thresholdsAt (after s p) j ≡ thresholdsAt s j
+  -- nor do thresholds, reading and nominal
+  pub thresholds-kept : (j : ℕ) → thresholdsAt (after s p) j ≡ thresholdsAt s j
   unfolding withSettings thresholdsAt
   thresholds-kept j = four-same elementPlace 0 settings-place (omega arith) f s n (valid s p) j 4 (omega arith) (inr (omega arith))
+
+  pub reading-kept : (j : ℕ) → readingAt (after s p) j ≡ readingAt s j
+  unfolding withSettings
+  reading-kept j = reading-same elementPlace 0 settings-place (omega arith) f s n (valid s p) j
+
+  pub nominal-kept : (j : ℕ) → nominalAt (after s p) j ≡ nominalAt s j
+  unfolding withSettings
+  nominal-kept j = nominal-same elementPlace 0 settings-place (omega arith) f s n (valid s p) j
 
   brought-row : (j : ℕ) → j < n → f j ≡ settingsAfter s p j
   unfolding broughtTo

@@ -15,7 +15,7 @@ use Rattle.bits.proofs.Halves.{num-small}
 use Rattle.element.specs.declared.types.Kind.{Kind}
 use Rattle.element.specs.declared.types.Kind.the-variants.{Cooling, Temperature, Voltage, Current}
 use Rattle.element.specs.Verdict.{unlimited, above, below, over, under}
-use Rattle.element.specs.Types.{fanLayout, isOn, speedShown, fanStatus, sensorLayout, temperatureStatus, voltageStatus, currentStatus, rulesOf, layoutOf, readingAllowed, nominalAllowed, had, ordered}
+use Rattle.element.specs.Types.{fanLayout, isOn, speedShown, fanStatus, sensorLayout, failShown, temperatureStatus, voltageStatus, currentStatus, rulesOf, layoutOf, readingAllowed, nominalAllowed, had, ordered}
 use Rattle.element.specs.Settings.{settingsFormed, fieldsFormed}
 use Rattle.element.proofs.SettingsBothWays.{Sound, sound-tested}
 use Rattle.element.proofs.StatusBothWays.{lays-tested}
@@ -49,7 +49,7 @@ facts Temperature = record {
   lays = lays-tested temperatureStatus refl;
   hides = λ e j. refl;
   shows = λ s v r l p a.
-      (omega arith, (omega arith, (omega arith, (num-small (v .highcrit), (num-small (v .highwarn), (num-small (v .lowcrit), (num-small (v .lowwarn), tt)))))));
+      (omega arith, (num-small (failShown s v), (omega arith, (num-small (v .highcrit), (num-small (v .highwarn), (num-small (v .lowcrit), (num-small (v .lowwarn), tt)))))));
 }
 facts Voltage = record {
   numbered = refl;
@@ -60,7 +60,7 @@ facts Voltage = record {
   lays = lays-tested voltageStatus refl;
   hides = λ e j. refl;
   shows = λ s v r l p a.
-      (omega arith, (omega arith, (num-small (v .highwarn), (num-small (v .lowwarn), (num-small (v .highcrit), (num-small (v .lowcrit), (omega arith, (omega arith, tt))))))));
+      (omega arith, (num-small (failShown s v), (num-small (v .highwarn), (num-small (v .lowwarn), (num-small (v .highcrit), (num-small (v .lowcrit), (omega arith, (omega arith, tt))))))));
 }
 facts Current = record {
   numbered = refl;
@@ -70,7 +70,7 @@ facts Current = record {
   lays = lays-tested currentStatus refl;
   hides = λ e j. refl;
   shows = λ s v r l p a.
-      (omega arith, (omega arith, (num-small (v .highwarn), (num-small (v .highcrit), (omega arith, (omega arith, tt))))));
+      (omega arith, (num-small (failShown s v), (num-small (v .highwarn), (num-small (v .highcrit), (omega arith, (omega arith, tt))))));
 }
 
 -- an element of the type with the least that it may have: a speed where there is one, no thresholds, reading 0, the least nominal

@@ -1,5 +1,5 @@
 -- The element types that are served: the rules of each, and what follows from them. Assumes nothing.
-use mathlib.Core.Bool.{Bool, _&&_}
+use mathlib.Core.Bool.{Bool, _&&_, _||_}
 use mathlib.Core.List.{List, [], _∷_}
 use Prim.Native.Nat.{ℕ, _-_, _/_, _%_}
 use lib.Dec.{eqb, leb}
@@ -12,7 +12,7 @@ use Rattle.element.specs.declared.verdict.Verdict.{Verdict}
 use Rattle.element.specs.declared.types.Kind.{Kind}
 use Rattle.element.specs.declared.types.Kind.the-variants.{Cooling, Temperature, Voltage, Current}
 use Rattle.element.specs.Layouts.{named}
-use Rattle.element.specs.Verdict.{fanVerdict, temperatureVerdict, voltageVerdict, currentVerdict}
+use Rattle.element.specs.Verdict.{detected, fanVerdict, temperatureVerdict, voltageVerdict, currentVerdict}
 use Rattle.element.specs.StatusLayout.{StatusLayout, flag, field, reserved}
 use Rattle.element.specs.Rules.{Rules, clear, numbersOf}
 use Rattle.element.specs.Thresholds.{highOrdered, lowOrdered, byteHad}
@@ -70,8 +70,12 @@ sensorLayout = record { flags1 = maskOf (7 ∷ 6 ∷ []); flags2 = 0; flags3 = 0
 abbrev pub identOf : Settings → ℕ
 identOf s = bitOf 7 (s .flags1)
 
-abbrev pub failOf : Settings → ℕ
-failOf s = bitOf 6 (s .flags1)
+abbrev pub hasFail : Settings → Bool
+hasFail s = bit 6 (s .flags1)
+
+-- FAIL is shown if it is stored or the code is 2 or 3
+abbrev pub failShown : Settings → Verdict → Bool
+failShown s v = hasFail s || detected (v .code)
 
 -- Temperature Sensor (04h)
 
@@ -85,7 +89,7 @@ temperatureStatus = record {
 
 abbrev pub temperatureFields : Settings → Verdict → ℕ → List ℕ
 temperatureFields s v r =
-    identOf s ∷ failOf s ∷ r % 256 ∷ num (v .highcrit) ∷ num (v .highwarn) ∷ num (v .lowcrit) ∷ num (v .lowwarn) ∷ []
+    identOf s ∷ num (failShown s v) ∷ r % 256 ∷ num (v .highcrit) ∷ num (v .highwarn) ∷ num (v .lowcrit) ∷ num (v .lowwarn) ∷ []
 
 abbrev pub temperature : Rules
 temperature = record {
@@ -117,7 +121,7 @@ voltageStatus = record {
 abbrev pub voltageFields : Settings → Verdict → ℕ → List ℕ
 voltageFields s v r =
     identOf s
-    ∷ failOf s
+    ∷ num (failShown s v)
     ∷ num (v .highwarn)
     ∷ num (v .lowwarn)
     ∷ num (v .highcrit)
@@ -154,7 +158,7 @@ currentStatus = record {
 }
 
 abbrev pub currentFields : Settings → Verdict → ℕ → List ℕ
-currentFields s v r = identOf s ∷ failOf s ∷ num (v .highwarn) ∷ num (v .highcrit) ∷ r / 256 ∷ r % 256 ∷ []
+currentFields s v r = identOf s ∷ num (failShown s v) ∷ num (v .highwarn) ∷ num (v .highcrit) ∷ r / 256 ∷ r % 256 ∷ []
 
 abbrev pub current : Rules
 current = record {

@@ -15,6 +15,10 @@ use Rattle.element.specs.declared.verdict.Verdict.{Verdict}
 abbrev pub codeFor : Bool → Bool → ℕ
 codeFor critical warning = pick critical 2 (pick warning 3 1)
 
+-- 2 or 3: a failure or a warning condition is detected
+abbrev pub detected : ℕ → Bool
+detected code = eqb code 2 || eqb code 3
+
 -- the verdict of four limit bits: high critical, high warning, low warning, low critical
 abbrev pub judged : Bool → Bool → Bool → Bool → Verdict
 judged hc hw lw lc = record { code = codeFor (hc || lc) (hw || lw); highcrit = hc; highwarn = hw; lowwarn = lw; lowcrit = lc }

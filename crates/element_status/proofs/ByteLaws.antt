@@ -1,14 +1,17 @@
 -- Byte 0 of a status element, flags side by side in one byte, and entries by the places of their fields. Assumes nothing.
 use mathlib.Core.Path.{_≡_, refl, sym, ap, _∙_}
-use mathlib.Core.Bool.{Bool, true, false, _&&_}
+use mathlib.Core.Bool.{Bool, true, false, _&&_, _||_}
 use mathlib.Core.List.{List, [], _∷_, _++_}
 use Prim.Native.Nat.{ℕ, _+_, _*_, _/_, _%_, _<_}
-use native.Mathlib.Nat.{mod-eq-of-lt, add-assoc}
+use native.Mathlib.Nat.{mod-eq-of-lt}
 use native.Mathlib.Omega.{arith}
-use lib.Dec.{leb}
+use lib.Bits.{bitOr}
+use lib.Dec.{eqb, leb}
 use lib.ListN.{getD}
-use Rattle.bits.specs.Bits.{num, bitOf, nibble, join}
+use borrow.Author.Tests.{eqb-true}
+use Rattle.bits.specs.Bits.{num, bitOf, bit, nibble, join}
 use Rattle.bits.proofs.Halves.{num-small, nibble-small}
+use Rattle.bits.proofs.Logic.{below-at}
 use Rattle.bits.specs.Places.{fourAt}
 use Rattle.bits.specs.Numbers.{big, bytes, Bytes}
 use Rattle.element.specs.declared.types.Kind.{Kind}
@@ -43,20 +46,33 @@ nibble-is a b c d = omega (arith, num-small a, num-small b, num-small c, num-sma
 pub nibble-made : (a b c d : Bool) {l : ℕ} → l ≡ nibble a b c d → l ≡ num a % 2 * 8 + (num b % 2 * 4 + (num c % 2 * 2 + (num d % 2 * 1 + 0)))
 nibble-made a b c d p = p ∙ nibble-is a b c d
 
-two-high : (g : ℕ) → 16 * (g % 4 * 4 % 16) ≡ g / 2 % 2 % 2 * 128 + g % 2 % 2 * 64
-two-high g = omega arith
+-- bit 6 set or left in a byte
+lit-made : (x : ℕ) → x < 256 → (d : Bool) → bitOr x (num d * 64) ≡ x / 128 * 128 + (num (bit 6 x || d) * 64 + x % 64)
+lit-made x h true =
+    eqb-true _ _ (below-at (λ b. eqb (bitOr b 64) (b / 128 * 128 + (num (bit 6 b || true) * 64 + b % 64))) 256 refl x h)
+lit-made x h false =
+    eqb-true _ _ (below-at (λ b. eqb (bitOr b 0) (b / 128 * 128 + (num (bit 6 b || false) * 64 + b % 64))) 256 refl x h)
 
-halved : (f : ℕ) → f / 64 / 2 ≡ f / 128
-halved f = omega arith
+-- two stored flags above a half byte, of which the lower is lit as well
+pub second-lit : (f l : ℕ) (d : Bool) {x y : ℕ} → x ≡ join (f / 64 % 4 * 4) l → y ≡ num d * 64
+    → bitOr x y ≡ bitOf 7 f * 128 + (num (bit 6 f || d) * 64 + l % 16)
+second-lit f l d {x} p q =
+    let h : f / 64 / 2 ≡ f / 128 = omega arith in
+    let i : x / 128 ≡ f / 64 / 2 % 2 = omega (arith, p) in
+    let b : x / 64 % 2 ≡ f / 64 % 2 = omega (arith, p) in
+    let m : x % 64 ≡ l % 16 = omega (arith, p) in
+    let e : bit 6 x ≡ bit 6 f = ap (λ (n : ℕ). eqb n 1) b in
+    ap (bitOr x) q ∙ lit-made x (omega (arith, p)) d ∙ (λ t. (i ∙ ap (λ (n : ℕ). n % 2) h) t * 128 + (num (e t || d) * 64 + m t))
 
--- four flags under two others, as the byte that all of them make
-pub limits-made : (f : ℕ) (a b c d : Bool) {l x : ℕ} → l ≡ nibble a b c d → x ≡ join (f / 64 % 4 * 4) l
-    → x ≡ bitOf 7 f % 2 * 128 + (bitOf 6 f % 2 * 64 + (num a % 2 * 8 + (num b % 2 * 4 + (num c % 2 * 2 + (num d % 2 * 1 + 0)))))
-limits-made f a b c d {l} {x} p q =
-    let n = num a % 2 * 8 + (num b % 2 * 4 + (num c % 2 * 2 + (num d % 2 * 1 + 0))) in
-    let h : 16 * (f / 64 % 4 * 4 % 16) ≡ bitOf 7 f % 2 * 128 + bitOf 6 f % 2 * 64 = two-high (f / 64) ∙ ap (λ (z : ℕ). z % 2 % 2 * 128 + bitOf 6 f % 2 * 64) (halved f) in
-    let m : l % 16 ≡ n = ap (λ (z : ℕ). z % 16) p ∙ mod-eq-of-lt (nibble-small a b c d) ∙ nibble-is a b c d in
-    q ∙ (λ i. h i + m i) ∙ add-assoc (bitOf 7 f % 2 * 128) (bitOf 6 f % 2 * 64) n
+pub second-made : (f : ℕ) (e : Bool) (l : ℕ) {x : ℕ} → x ≡ bitOf 7 f * 128 + (num e * 64 + l % 16) → x ≡ bitOf 7 f % 2 * 128 + (num e % 2 * 64 + l % 16)
+second-made f e l p = omega (arith, p, num-small e)
+
+-- with four flags as that half
+pub limits-made : (f : ℕ) (e a b c d : Bool) {l x : ℕ} → l ≡ nibble a b c d → x ≡ bitOf 7 f * 128 + (num e * 64 + l % 16)
+    → x ≡ bitOf 7 f % 2 * 128 + (num e % 2 * 64 + (num a % 2 * 8 + (num b % 2 * 4 + (num c % 2 * 2 + (num d % 2 * 1 + 0)))))
+limits-made f e a b c d {l} p q =
+    let m = ap (λ (z : ℕ). z % 16) p ∙ mod-eq-of-lt (nibble-small a b c d) ∙ nibble-is a b c d in
+    second-made f e l q ∙ ap (λ (z : ℕ). bitOf 7 f % 2 * 128 + (num e % 2 * 64 + z)) m
 
 -- what an element shows, from the settings and the verdict that the calls say
 pub status-by : (l : StatusLayout) (f : Settings → Verdict → ℕ → List ℕ) (r : ℕ) {s t : Settings} {v w : Verdict} {e : List ℕ} → s ≡ t → v ≡ w

@@ -7,11 +7,12 @@ use element::verdict::Verdict;
 use element_verdict::verdict;
 ghost use mathlib.Core.Path.{_≡_};
 ghost use mathlib.Core.List.{[], _∷_};
+ghost use Prim.Native.Nat.{_+_, _*_, _%_};
 ghost use Rattle.bits.specs.Bits.{num};
 ghost use Rattle.element.specs.Settings.{settingsOf, fieldsFormed};
 ghost use Rattle.element.specs.declared.types.Kind.the-variants.{Cooling, Temperature, Voltage, Current};
-ghost use Rattle.element.specs.Verdict.{fanVerdict, temperatureVerdict, voltageVerdict, currentVerdict};
-ghost use Rattle.element.specs.Types.{isOn, speedShown, fanStatus, fanFields, temperatureStatus, temperatureFields, voltageStatus, voltageFields, currentStatus, currentFields};
+ghost use Rattle.element.specs.Verdict.{detected, fanVerdict, temperatureVerdict, voltageVerdict, currentVerdict};
+ghost use Rattle.element.specs.Types.{isOn, speedShown, fanStatus, fanFields, identOf, failShown, temperatureStatus, temperatureFields, voltageStatus, voltageFields, currentStatus, currentFields};
 ghost use Rattle.element.specs.Status.{firstByte, entryOf, statusBytes, shownBy, statusWith};
 ghost use Rattle.element_status.specs.Words.{numberOf};
 
@@ -123,6 +124,20 @@ fn speed_shown(set: Settings) -> u8
     }
 }
 
+// Byte 1 of a sensor: IDENT and FAIL, and below them a half of its own.
+fn second_byte(set: Settings, v: Verdict, low: u8) -> u8
+    ensures { λ r. ⌜ r ≡ identOf set * 128 + (num (failShown set v) * 64 + low % 16) ⌝ }
+{
+    bits::join(set.flags1 / 64 % 4 * 4, low) | fail_lit(v)
+}
+
+// A limit that trips lights FAIL without a host, and no host puts it out.
+fn fail_lit(v: Verdict) -> u8
+    ensures { λ r. ⌜ r ≡ num (detected (v .code)) * 64 ⌝ }
+{
+    if (v.code == 2) | (v.code == 3) { 64 } else { 0 }
+}
+
 fn temperature(stored: [u8; 4], reading: u16, t: [u8; 4]) -> [u8; 4]
     ensures { λ r. ⌜ r ≡ statusWith temperatureStatus temperatureFields (settingsOf Temperature stored) (temperatureVerdict reading t) reading ⌝ }
 {
@@ -135,7 +150,7 @@ fn temperature_bytes(set: Settings, v: Verdict, reading: u16) -> [u8; 4]
 {
     [
         first_byte(set, v.code),
-        set.flags1 / 64 % 4 * 64,
+        second_byte(set, v, 0),
         (reading % 256) as u8,
         bits::nibble(v.highcrit, v.highwarn, v.lowcrit, v.lowwarn),
     ]
@@ -154,7 +169,7 @@ fn voltage_bytes(set: Settings, v: Verdict, reading: u16) -> [u8; 4]
     let limits = bits::nibble(v.highwarn, v.lowwarn, v.highcrit, v.lowcrit);
     [
         first_byte(set, v.code),
-        bits::join(set.flags1 / 64 % 4 * 4, limits),
+        second_byte(set, v, limits),
         (reading / 256) as u8,
         (reading % 256) as u8,
     ]

@@ -1,15 +1,17 @@
 -- The two slots of an element: that they are there and of its type, and the same on shelves with the same front.
 -- Assumes nothing.
 use mathlib.Core.Path.{_≡_, sym, ap, _∙_}
-use mathlib.Core.Bool.{true}
+use mathlib.Core.Bool.{true, false}
 use mathlib.Core.List.{List}
-use Prim.Native.Nat.{ℕ, _<_}
+use Prim.Native.Nat.{ℕ, _+_, _<_}
 use native.Mathlib.Omega.{arith}
 use lib.ListN.{length}
+use borrow.Author.Tests.{ne-eqb}
+use Rattle.bits.proofs.Logic.{pick-no}
 use Rattle.element.specs.Types.{kindOf}
 use Rattle.refusals.specs.declared.Answer.{Answer}
 use Rattle.refusals.specs.declared.Answer.the-variants.{Accepted}
-use Rattle.shelf.specs.Types.{typeCode, elementsOf, typeOf, kindAt}
+use Rattle.shelf.specs.Types.{typeCode, before, elementsOf, typeOf, kindAt}
 use Rattle.shelf.specs.Limits.{HasElement}
 use Rattle.shelf_formed.specs.Formed.{frontFormed, HasFront, wellFormed}
 use Rattle.shelf_formed.proofs.ElementPut.{length-formed, room}
@@ -17,7 +19,7 @@ use Rattle.shelf_formed.proofs.FrontOfShelf.{front, before-alike, type-alike, k
 use Rattle.shelf_formed.proofs.ElementTypes.{front-formed, type-below, type-start, type-end, type-named}
 use Rattle.page.specs.declared.places.Places.{Places}
 use Rattle.page.specs.declared.slots.Slot.{Slot}
-use Rattle.page.specs.Slots.{slotsOf, startOf, slotType, slotAt, HasElements}
+use Rattle.page.specs.Slots.{slotsOf, startOf, slotType, isOverall, slotAt, HasElements}
 use Rattle.page.proofs.SlotsBefore.{start-next}
 use Rattle.page.specs.Places.{ownSlot, overallSlot, placesOf, HasSlots}
 use Rattle.page.specs.Header.{pageTested, HasPage}
@@ -49,6 +51,15 @@ module _ (s : List ℕ) where
     pub overall-kind : slotAt s (overallSlot s j) .kind ≡ kindAt s j
     unfolding slotAt kindAt
     overall-kind = ap (λ (t : ℕ). kindOf (typeCode s t)) overall-type
+
+    -- its own is for the element alone
+    pub own-single : slotAt s (ownSlot s j) .overall ≡ false
+    unfolding slotAt isOverall startOf
+    own-single = rw own-type (ne-eqb (ownSlot s j) (before s (typeOf s j) + typeOf s j) (λ e. omega (arith, type-start s j l, e)))
+
+    pub own-first : slotAt s (ownSlot s j) .first ≡ j
+    unfolding slotAt
+    own-first = pick-no _ _ _ own-single ∙ rw own-type (omega arith)
 
     -- and on the page
     module _ (w : frontFormed s ≡ true) where

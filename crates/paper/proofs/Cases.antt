@@ -60,7 +60,7 @@ use Rattle.build_page.specs.Page.{searchIn, overallIn, rowUnder, rowFor, select
 use Rattle.build_page.proofs.FirstPage.{made-selects}
 use Rattle.build_page.proofs.PromiseKept.{none-reaches, page-promised}
 use Rattle.build_page.proofs.PromiseLaws.{wish-taken, selects-needed}
-use Rattle.paper.specs.Table.{Case, shows, judges, tells, builds, reaches, refuses, answers, describes, finds, reads, counts, ends, limits, none, typesA, frontA, shelfA, OfA, middleNamed, OfNamed, HasStatus, Gets, ReachedBy, RefusedBy, Answers, HasNames, Finds, ReadsNames, EndsBy, Holds, AllHold, stoppedFans, fromTheBus, table}
+use Rattle.paper.specs.Table.{Case, shows, judges, tells, builds, reaches, refuses, answers, describes, finds, reads, counts, ends, limits, none, typesA, frontA, shelfA, OfA, middleNamed, OfNamed, HasStatus, Gets, ReachedBy, RefusedBy, Answers, HasNames, Finds, ReadsNames, EndsBy, Holds, AllHold, stoppedFans, fromTheBus, shownFail, table}
 use Rattle.paper.specs.Errors.{errors}
 use Rattle.paper.proofs.NamesOfA.{readRest, read-so, middleName, standing, described-so, foundSo, found-so}
 
@@ -407,6 +407,13 @@ computed-bus i m =
     refl also refl also refl also refl also refl also refl also refl also refl also refl also refl also refl also refl
     also refl also refl also refl also refl also refl also refl also refl also end
 
+-- and those of request Five
+computed-fail : (i m : List ℕ) → Agree i m shownFail
+unfolding settingsOf layoutOf over under verdictOf entryBy shownBy statusBytes given told
+computed-fail i m =
+    refl also refl also refl also refl also refl also refl also refl also refl also refl also refl also refl also refl
+    also refl also refl also end
+
 both : {i m : List ℕ} {cs ds : List Case} → Agree i m cs → Agree i m ds → Agree i m (cs ++ ds)
 both end l = l
 both (e also k) l = e also both k l
@@ -423,7 +430,7 @@ computed i m =
     refl also refl also refl also refl also refl also refl also refl also refl also refl also refl also refl also refl
     also refl also refl also refl also refl also refl also refl also refl also refl also refl also refl also refl also refl
     also refl also refl also refl also refl also refl also refl also refl also refl also refl also refl also refl
-    also refl also refl also refl also refl also refl also refl also refl also both (computed-stopped i m) (computed-bus i m)
+    also refl also refl also refl also refl also refl also refl also refl also both (computed-stopped i m) (both (computed-bus i m) (computed-fail i m))
 
 -- apart from the table, so that antt holds less at a time
 computed-errors : (i m : List ℕ) → Agree i m errors

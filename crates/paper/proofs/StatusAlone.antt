@@ -1,15 +1,19 @@
 -- The status page alone settles neither what a shelf stores nor which page the builder gives: A with its middle fan stopped shows the same
--- at SPEED 3 and at SPEED 5. Assumes nothing.
+-- at SPEED 3 and at SPEED 5, and a sensor whose limit trips the same with FAIL stored and without. Assumes nothing.
 use mathlib.Core.Path.{_≡_, refl, sym, ap, _∙_}
-use mathlib.Core.Bool.{true}
+use mathlib.Core.Bool.{Bool, true, true≢false}
 use mathlib.Core.List.{List}
 use Prim.Native.Nat.{ℕ}
 use native.Mathlib.Omega.{arith}
 use lib.ListN.{getD, replicate}
+use Rattle.element.specs.declared.types.Kind.the-variants.{Temperature}
+use Rattle.element.specs.Types.{hasFail, layoutOf, verdictOf}
+use Rattle.element.specs.Settings.{settingsOf}
+use Rattle.element.specs.Status.{entryBy, shownBy, statusBytes}
 use Rattle.shelf.specs.Elements.{settingsAt}
 use Rattle.shelf_formed.specs.Formed.{wellFormed}
 use Rattle.status_page.specs.Page.{statusPage}
-use Rattle.paper.specs.Table.{shelfA, OfA, HasStatus, Gets, middleOff, middleOn, stoppedPage, control, requests, keeps, silent}
+use Rattle.paper.specs.Table.{shelfA, OfA, HasStatus, Gets, middleOff, middleOn, stoppedPage, control, requests, keeps, silent, none, failed, warning}
 use Rattle.paper.proofs.Cases.{are-bytes, stopped-proved}
 
 -- A without identification and names, its middle fan stopped with this SPEED stored
@@ -46,3 +50,12 @@ builder-not-fed f h =
     let b = h (stoppedAt 5) middleOn (control silent silent keeps silent) 1 (it-is 5 (Gets middleOn (control silent silent keeps silent) 1) (stopped-proved .1 .1 .1 .0)) in
     let c : _≡_ {A = ℕ} 0x25 0x20 = ap (λ (x : List ℕ). getD x 19 0) (sym a ∙ ap (λ (p : List ℕ). f p middleOn) (one-status .2) ∙ b) in
     omega arith
+
+-- temperature byte 65 with high warning 64
+abbrev pub sensorShows : List ℕ → List ℕ
+sensorShows e = statusBytes Temperature (shownBy Temperature (settingsOf Temperature e) 65 0 (warning 64))
+
+-- no function gives a sensor's stored FAIL from what it shows
+pub fail-not-told : (f : List ℕ → Bool) → ((e : List ℕ) → f (sensorShows e) ≡ hasFail (settingsOf Temperature e)) → ⊥
+unfolding settingsOf layoutOf verdictOf entryBy shownBy statusBytes
+fail-not-told f h = true≢false (sym (h failed) ∙ h none)

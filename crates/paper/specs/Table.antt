@@ -1,4 +1,4 @@
--- The cases that document 01 marks M, and those of requests One to Four. Assumes nothing.
+-- The cases that document 01 marks M, and those of requests One to Five. Assumes nothing.
 use mathlib.Core.Path.{_≡_}
 use mathlib.Core.Bool.{true}
 use mathlib.Core.List.{List, [], _∷_, _++_}
@@ -164,7 +164,7 @@ highWarning = 3 ∷ 0 ∷ 1 ∷ 0 ∷ 0 ∷ []
 abbrev critical : ℕ → List ℕ
 critical h = h ∷ 0 ∷ 0 ∷ 0 ∷ []
 
-abbrev warning : ℕ → List ℕ
+abbrev pub warning : ℕ → List ℕ
 warning h = 0 ∷ h ∷ 0 ∷ 0 ∷ []
 
 -- settings of a fan that is ON, at this speed
@@ -286,6 +286,33 @@ fromTheBus =
     ∷ ends fansA (saying 0xff 0xff) 65532 0x07 3 0
     ∷ []
 
+-- request Five: settings of a sensor with FAIL
+abbrev pub failed : List ℕ
+failed = 0x00 ∷ 0x40 ∷ 0x00 ∷ 0x00 ∷ []
+
+abbrev pub shownFail : List Case
+shownFail =
+    -- temperature byte 64 with high warning 64 shows the stored FAIL; byte 65 shows it with it stored as without
+    shows Temperature none 64 0 (warning 64) (0x01 ∷ 0x00 ∷ 0x40 ∷ 0x00 ∷ [])
+    ∷ shows Temperature failed 64 0 (warning 64) (0x01 ∷ 0x40 ∷ 0x40 ∷ 0x00 ∷ [])
+    ∷ shows Temperature failed 65 0 (warning 64) (0x03 ∷ 0x40 ∷ 0x41 ∷ 0x04 ∷ [])
+    -- no reading: code 6 lights nothing
+    ∷ shows Temperature none 0 0 (warning 64) (0x06 ∷ 0x00 ∷ 0x00 ∷ 0x00 ∷ [])
+    ∷ shows Temperature failed 0 0 (warning 64) (0x06 ∷ 0x40 ∷ 0x00 ∷ 0x00 ∷ [])
+    -- N 1,200, high critical 20: 1,320 and 1,321
+    ∷ shows Voltage none 1320 1200 (critical 20) (0x01 ∷ 0x00 ∷ 0x05 ∷ 0x28 ∷ [])
+    ∷ shows Voltage none 1321 1200 (critical 20) (0x02 ∷ 0x42 ∷ 0x05 ∷ 0x29 ∷ [])
+    ∷ shows Current none 1320 1200 (critical 20) (0x01 ∷ 0x00 ∷ 0x05 ∷ 0x28 ∷ [])
+    ∷ shows Current none 1321 1200 (critical 20) (0x02 ∷ 0x42 ∷ 0x05 ∷ 0x29 ∷ [])
+    -- N 350, high warning 5: 358 and 359
+    ∷ shows Voltage none 358 350 (warning 5) (0x01 ∷ 0x00 ∷ 0x01 ∷ 0x66 ∷ [])
+    ∷ shows Voltage none 359 350 (warning 5) (0x03 ∷ 0x48 ∷ 0x01 ∷ 0x67 ∷ [])
+    ∷ shows Current none 358 350 (warning 5) (0x01 ∷ 0x00 ∷ 0x01 ∷ 0x66 ∷ [])
+    ∷ shows Current none 359 350 (warning 5) (0x03 ∷ 0x48 ∷ 0x01 ∷ 0x67 ∷ [])
+    -- a fan ON with reading 0 has code 2, and FAIL only if, as here, it is stored
+    ∷ shows Cooling (on 0x63) 0 0 none (0x02 ∷ 0x00 ∷ 0x00 ∷ 0x63 ∷ [])
+    ∷ []
+
 abbrev pub table : List Case
 table =
     -- A's status, whole
@@ -322,10 +349,10 @@ table =
     ∷ refuses fansA ((0x10 ∷ 0x00 ∷ 0x00 ∷ 0x23 ∷ []) ++ on 0x23 ++ on 0x23) 10
     -- a fan ON with reading 0: code 2
     ∷ shows Cooling (on 0x23) 0 0 none (0x02 ∷ 0x00 ∷ 0x00 ∷ 0x23 ∷ [])
-    -- temperature byte 64 with high warning 64, and byte 65
+    -- temperature byte 64 with high warning 64, and byte 65, which shows FAIL by request Five
     ∷ judges Temperature 64 0 (warning 64) fine
     ∷ judges Temperature 65 0 (warning 64) highWarning
-    ∷ shows Temperature none 65 0 (warning 64) (0x03 ∷ 0x00 ∷ 0x41 ∷ 0x04 ∷ [])
+    ∷ shows Temperature none 65 0 (warning 64) (0x03 ∷ 0x40 ∷ 0x41 ∷ 0x04 ∷ [])
     -- N 1,200, high critical 20
     ∷ judges Voltage 1320 1200 (critical 20) fine
     ∷ judges Voltage 1321 1200 (critical 20) highCritical
@@ -336,8 +363,8 @@ table =
     ∷ judges Voltage 359 350 (warning 5) highWarning
     ∷ judges Current 358 350 (warning 5) fine
     ∷ judges Current 359 350 (warning 5) highWarning
-    -- V −1, N 1,200, low critical 20: CRIT UNDER, bytes FF FF
-    ∷ shows Voltage none 0xffff 1200 (0 ∷ 0 ∷ 0 ∷ 20 ∷ []) (0x02 ∷ 0x01 ∷ 0xff ∷ 0xff ∷ [])
+    -- V −1, N 1,200, low critical 20: CRIT UNDER and, by request Five, FAIL, bytes FF FF
+    ∷ shows Voltage none 0xffff 1200 (0 ∷ 0 ∷ 0 ∷ 20 ∷ []) (0x02 ∷ 0x41 ∷ 0xff ∷ 0xff ∷ [])
     -- request One. 23 or 25 bytes whose length field says 24: 4
     ∷ answers fansA (heading 0x14 0x07 ++ replicate 15 0) 4 0
     ∷ answers fansA (heading 0x14 0x07 ++ replicate 17 0) 4 0
@@ -370,5 +397,5 @@ table =
     ∷ reads (described 0x16 0x02 (0x20 ∷ 0x7e ∷ [])) 0 0
     ∷ reads (described 0x16 0x02 (0x1f ∷ 0x7e ∷ [])) 6 20
     ∷ reads (described 0x16 0x02 (0x20 ∷ 0x7f ∷ [])) 6 21
-    -- requests Three and Four
-    ∷ (stoppedFans ++ fromTheBus)
+    -- requests Three to Five
+    ∷ (stoppedFans ++ (fromTheBus ++ shownFail))

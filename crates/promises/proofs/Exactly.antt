@@ -1,6 +1,7 @@
 -- An accepted control or threshold page changes exactly the chosen elements' named fields, and nothing else, and no page changes a name; a
 -- name that is set is exactly what changes: over what the calls answer and leave. Assumes nothing.
 use mathlib.Core.Path.{_≡_, sym, ap, _∙_}
+use mathlib.Core.Bool.{true}
 use mathlib.Core.List.{List}
 use mathlib.Core.Logic.{_⊎_, inl, inr}
 use Prim.Native.Nat.{ℕ, _<_, _≤_}
@@ -14,6 +15,8 @@ use Rattle.refusals.specs.declared.PageAnswer.the-variants.{Accepted}
 use Rattle.refusals.specs.Outcomes.{accepts}
 use Rattle.shelf.specs.Limits.{elementPlace}
 use Rattle.shelf.specs.Types.{elementsOf}
+use Rattle.shelf_formed.specs.Formed.{wellFormed}
+use Rattle.shelf_formed.proofs.FrontOfShelf.{front}
 use Rattle.page.specs.Slots.{startOf}
 use Rattle.page.specs.Places.{ownSlot}
 use Rattle.names.specs.Names.{nameOf}
@@ -23,6 +26,7 @@ use Rattle.control_page.specs.Tests as controlTests
 use Rattle.control_page.specs.Brought as controlled
 use Rattle.control_page.specs.Exactly as control
 use Rattle.control_page.proofs.Exactly as controlProofs
+use Rattle.control_page.proofs.ValidPage.{valid-formed}
 use Rattle.control_page.proofs.Changes as controlChanges
 use Rattle.threshold_page_out.specs.Tests as thresholdTests
 use Rattle.threshold_page_out.specs.Exactly as thresholds
@@ -34,6 +38,14 @@ use Rattle.promises.specs.Promises.{ApplyControl, ApplyThresholds, EndPa
 pub control-exactly : (s p : List ℕ) {r : PageAnswer} {o : List ℕ} → ApplyControl s p r o → r ≡ Accepted → control.Exactly s p o
 unfolding controlTests.valid
 control-exactly s p h e = rw (h .1) (controlProofs.exactly s p (ap accepts (sym (h .0) ∙ e)))
+
+-- such a page is for a well-formed shelf and leaves one; whatever is answered, the configuration stays
+pub control-formed : (s p : List ℕ) {r : PageAnswer} {o : List ℕ} → ApplyControl s p r o → r ≡ Accepted → (wellFormed s ≡ true) × (wellFormed o ≡ true)
+unfolding controlTests.valid
+control-formed s p h e = let w = valid-formed s p (ap accepts (sym (h .0) ∙ e)) in (w, rw (h .1) (controlChanges.stays-formed s p w))
+
+pub control-front : (s p : List ℕ) {r : PageAnswer} {o : List ℕ} → ApplyControl s p r o → front o ≡ front s
+control-front s p h = ap front (h .1) ∙ controlChanges.configuration-kept s p
 
 pub thresholds-exactly : (s p : List ℕ) {r : PageAnswer} {o : List ℕ} → ApplyThresholds s p r o → r ≡ Accepted → thresholds.Exactly s p o
 unfolding thresholdTests.valid

@@ -8,3 +8,4 @@ pub mod PageOrder
 pub mod WhereRefused
 pub mod BeforeRequestOne
 pub mod StoppedFans
+pub mod ShownFail

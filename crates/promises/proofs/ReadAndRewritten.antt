@@ -32,7 +32,7 @@ use Rattle.promises.specs.Demands.{WrittenAgain}
 use Rattle.promises.proofs.StatusRewritten as status
 
 -- what an accepting reader leaves is the record, in the place that was lent
-handed : (a : PageAnswer) (told old : List ℕ) {r : PageAnswer} {f : List ℕ} → HandsBack a told old r f → r ≡ page.Accepted → (a ≡ page.Accepted) × (f ≡ placed told old)
+pub handed : (a : PageAnswer) (told old : List ℕ) {r : PageAnswer} {f : List ℕ} → HandsBack a told old r f → r ≡ page.Accepted → (a ≡ page.Accepted) × (f ≡ placed told old)
 handed a told old h e = (sym (h .0) ∙ e, h .1 ∙ rw e)
 
 -- what is placed into a place of its own length

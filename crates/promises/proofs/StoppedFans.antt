@@ -14,7 +14,6 @@ use borrow.Author.Tests.{eqb-true, ne-eqb}
 use Rattle.bits.specs.Choice.{pick}
 use Rattle.bits.specs.Bits.{bitOf, bit}
 use Rattle.bits.specs.Numbers.{Bytes}
-use Rattle.bits.specs.Places.{fourAt}
 use Rattle.bits.proofs.Each.{byte-small}
 use Rattle.bits.proofs.FoursPut.{four-byte}
 use Rattle.bits.proofs.Logic.{pick-no, byByteIf}
@@ -27,26 +26,20 @@ use Rattle.element.specs.Status.{entryOf, entryBy}
 use Rattle.element.proofs.StoredSettings.{settings-again}
 use Rattle.refusals.specs.declared.PageAnswer.{PageAnswer}
 use Rattle.refusals.specs.declared.PageAnswer.the-variants.{Accepted}
-use Rattle.refusals.specs.Outcomes.{accepts}
 use Rattle.shelf.specs.Limits.{elementPlace}
 use Rattle.shelf.specs.Types.{kindAt}
 use Rattle.shelf.specs.Elements.{settingsAt}
 use Rattle.shelf_formed.specs.Formed.{wellFormed}
-use Rattle.shelf_formed.proofs.ElementTypes.{front-formed}
 use Rattle.shelf_formed.proofs.FormedShelf.{in-element}
 use Rattle.shelf_formed.proofs.FrontOfShelf.{front, kind-alike}
-use Rattle.page.specs.Slots.{slotsOf, slotAt, slotPlace}
-use Rattle.page.proofs.SlotsOfFront.{slot-same, kind-first}
+use Rattle.page.specs.Slots.{slotsOf, slotAt}
 use Rattle.status_page.specs.Page.{statusPage}
 use Rattle.status_reading.specs.Read.{slotShown}
-use Rattle.status_reading.proofs.WrittenAndRead.{told-verdict}
-use Rattle.control_page.specs.Tests.{controlTested, valid}
+use Rattle.status_reading.proofs.WrittenAndRead.{told-entry, told-verdict}
 use Rattle.control_page.specs.Exactly.{Chosen, ChosenByte, recordIn, Acted}
-use Rattle.control_page.proofs.ValidPage.{valid-formed}
-use Rattle.control_page.proofs.Changes.{configuration-kept, stays-formed}
 use Rattle.promises.specs.Promises.{ApplyControl}
 use Rattle.promises.specs.StoppedFans.{speedCode, switching, Switches}
-use Rattle.promises.proofs.Exactly.{control-exactly}
+use Rattle.promises.proofs.Exactly.{control-exactly, control-formed, control-front}
 
 -- what slot i of a shelf's status page shows, if it is that of fan j
 module _ (s : List ℕ) (hs : Bytes s) (w : wellFormed s ≡ true) (i : ℕ) (l : i < slotsOf s) (o : slotAt s i .overall ≡ false) where
@@ -64,16 +57,8 @@ module _ (s : List ℕ) (hs : Bytes s) (w : wellFormed s ≡ true) (i : ℕ) (l 
 
     -- and so it stands on the page
     pub code-told : speedCode (statusPage s) i ≡ pick (isOn e) (e .speed) 0
-    code-told = sym read ∙ entry-told
-      where
-        at : slotShown (front s) (statusPage s) i ≡ entryOf Cooling (fourAt (statusPage s) (slotPlace i))
-        at =
-            unfold slotShown in
-            rw (slot-same s (front-formed s w) i l)
-            (pick-no _ _ _ o ∙ ap (λ (k : Kind). entryOf k (fourAt (statusPage s) (slotPlace i))) (sym (kind-first s (front-formed s w) i l o) ∙ k))
-
-        read : getD (slotShown (front s) (statusPage s) i) 10 0 ≡ speedCode (statusPage s) i
-        read = unfold entryOf in ap (λ (x : List ℕ). getD x 10 0) at ∙ omega arith
+    unfolding entryOf
+    code-told = sym (ap (λ (x : List ℕ). getD x 10 0) (told-entry s hs w i l o) ∙ rw k (omega arith)) ∙ entry-told
 
 -- a fan that an accepted page switches, whatever the page asks of other elements
 module _ (on : Bool) (s p x : List ℕ) {r : PageAnswer} (a : ApplyControl s p r x) (u : r ≡ Accepted) (j : ℕ) (t : Switches on s p j) where
@@ -90,15 +75,11 @@ no-on f = ne-eqb ((bitOf 6 f * 64 + 0 * 32) / 32 % 2) 1 (λ e. omega arith)
 module _ (s p x : List ℕ) {r : PageAnswer} (hx : Bytes x) (a : ApplyControl s p r x) (u : r ≡ Accepted) (i : ℕ) (l : i < slotsOf x)
     (o : slotAt x i .overall ≡ false) (stops : Switches false s p (slotAt x i .first)) where
   pub stopped-shows : speedCode (statusPage x) i ≡ 0
-  unfolding valid
   stopped-shows =
       let j = slotAt x i .first in
-      let v : accepts (controlTested s p) ≡ true = ap accepts (sym (a .0) ∙ u) in
-      let w : wellFormed x ≡ true = rw (a .1) (stays-formed s p (valid-formed s p v)) in
-      let e : front x ≡ front s = ap front (a .1) ∙ configuration-kept s p in
-      let k : kindAt x j ≡ kindAt s j = kind-alike s x e j (stops .0 .0) in
+      let k : kindAt x j ≡ kindAt s j = kind-alike s x (control-front s p a) j (stops .0 .0) in
       let t : isOn (recordIn s x j) ≡ false = ap (bit 5) (switched false s p x a u j stops .flags3) ∙ no-on (recordIn s s j .flags3) in
-      code-told x hx w i l o (k ∙ stops .1) ∙ pick-no _ _ _ (ap (λ (k : Kind). isOn (settingsOf k (settingsAt x j))) k ∙ t)
+      code-told x hx (control-formed s p a u .1) i l o (k ∙ stops .1) ∙ pick-no _ _ _ (ap (λ (k : Kind). isOn (settingsOf k (settingsAt x j))) k ∙ t)
 
 -- FAIL as it was and ON 0, and then ON 1, is what a fan had that was ON
 on-again : (b : ℕ) → b < 256 → bit 5 (bitAnd b 96) ≡ true → bitOf 6 (bitOf 6 (bitAnd b 96) * 64 + 0 * 32) * 64 + 1 * 32 ≡ bitAnd b 96
@@ -109,8 +90,7 @@ on-again b h t =
 -- two accepted pages, one after the other
 module _ (s p x q y : List ℕ) {r d : PageAnswer} (hs : Bytes s) (a : ApplyControl s p r x) (u : r ≡ Accepted) (b : ApplyControl x q d y) (v : d ≡ Accepted) where
   w : wellFormed s ≡ true
-  unfolding valid
-  w = valid-formed s p (ap accepts (sym (a .0) ∙ u))
+  w = control-formed s p a u .0
 
   -- a fan that the first stops and the second starts again has the settings that it had
   module _ (j : ℕ) (was-on : isOn (recordIn s s j) ≡ true) (stops : Switches false s p j) (starts : Switches true x q j) where

@@ -151,11 +151,11 @@ module _ (at : ℕ → ℕ) (o : ℕ) (place : (j : ℕ) → at j ≡ elementPla
       pub four-same : (j q : ℕ) → q + 4 ≤ 16 → Apart q o → fourAt after (elementPlace j + q) ≡ fourAt s (elementPlace j + q)
       four-same j q l h = either (λ (x : List ℕ). fourAt x (elementPlace j + q) ≡ fourAt s (elementPlace j + q)) refl (λ e. four-after j q l h)
 
-      reading-same : (j : ℕ) → readingAt after j ≡ readingAt s j
+      pub reading-same : (j : ℕ) → readingAt after j ≡ readingAt s j
       unfolding readingAt
       reading-same j = ap (λ (e : List ℕ). big (twoAt e 0)) (four-same j 8 (omega arith) (inr (omega arith)))
 
-      nominal-same : (j : ℕ) → nominalAt after j ≡ nominalAt s j
+      pub nominal-same : (j : ℕ) → nominalAt after j ≡ nominalAt s j
       unfolding nominalAt
       nominal-same j = ap (λ (e : List ℕ). big (twoAt e 0)) (four-same j 10 (omega arith) (inr (omega arith)))
 

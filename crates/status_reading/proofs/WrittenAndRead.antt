@@ -166,6 +166,11 @@ module _ (s : List ℕ) (hs : Bytes s) (w : wellFormed s ≡ true) where
         (λ o. pick-yes _ _ _ o ∙ ap codeAlone (g ∙ ap (λ (e : List ℕ). getD e 0 0) (row-overall o)) ∙ sym (shows-overall o))
         (λ o. pick-no _ _ _ o ∙ ap (entryOf (at .kind)) (on-page ∙ row-element o) ∙ element-back o))
 
+    -- what is read of an individual slot is what its four bytes say
+    pub told-entry : at .overall ≡ false → slotShown (front s) (statusPage s) i ≡ entryOf (kindAt s (at .first)) (fourAt (statusPage s) (slotPlace i))
+    unfolding slotShown
+    told-entry o = rw (slot-same s f i l, kind-first s f i l o) (pick-no _ _ _ o)
+
     -- what an individual element shows follows from what the shelf stores of it, the verdict as the definition gives it
     pub told-verdict : at .overall ≡ false
         → let j : ℕ = at .first in

@@ -34,15 +34,16 @@ pub fn show(shelf: &[u8], kind: Kind, j: u16, at: u32)
     let x = element_status::types::entry(kind, shelf_status::status_at(shelf, kind, j));
     let nominal = elements::nominal_at(shelf, j);
     let t = elements::thresholds_at(shelf, j);
+    let stored = Settings::of(kind, elements::settings_at(shelf, j));
     tool_print::labelled(b"  element ", j as u64);
     say_name(b" \"", shelf, at);
     tool_print::labelled(b": code ", x[0] as u64);
     tool_print::text(b", ");
     match kind {
-        Kind::Cooling => say_fan(x, Settings::of(kind, elements::settings_at(shelf, j))),
-        Kind::Temperature => say_temperature(x, t),
-        Kind::Voltage => say_voltage(x, nominal, t),
-        Kind::Current => say_current(x, nominal, t),
+        Kind::Cooling => say_fan(x, stored),
+        Kind::Temperature => say_temperature(x, t, stored),
+        Kind::Voltage => say_voltage(x, nominal, t, stored),
+        Kind::Current => say_current(x, nominal, t, stored),
     }
     tool_print::text(b"\n");
 }
@@ -53,7 +54,7 @@ fn say_fan(x: [u8; element_status::ENTRY], stored: Settings) {
     tool_print::flag(x[8] == 1, b"ON");
     tool_print::flag(x[9] == 1, b"OFF");
     say_speed(x[10], stored.speed);
-    say_flags(x, x[7]);
+    say_flags(x, x[7], stored.flags3);
 }
 
 // The speed code, and the stored SPEED where that is another.
@@ -65,31 +66,31 @@ fn say_speed(shown: u8, stored: u8) {
     }
 }
 
-fn say_temperature(x: [u8; element_status::ENTRY], t: [u8; 4]) {
+fn say_temperature(x: [u8; element_status::ENTRY], t: [u8; 4], stored: Settings) {
     say_reading_in_degrees(x[6] as u16);
     tool_print::flag(x[7] == 1, b"OT FAILURE");
     tool_print::flag(x[8] == 1, b"OT WARNING");
     tool_print::flag(x[9] == 1, b"UT FAILURE");
     tool_print::flag(x[10] == 1, b"UT WARNING");
-    say_flags(x, x[5]);
+    say_flags(x, x[5], stored.flags1);
     say_degree_thresholds(t);
 }
 
-fn say_voltage(x: [u8; element_status::ENTRY], nominal: u16, t: [u8; 4]) {
+fn say_voltage(x: [u8; element_status::ENTRY], nominal: u16, t: [u8; 4], stored: Settings) {
     say_of_nominal(number(x[10], x[11]), nominal, b" V");
     tool_print::flag(x[6] == 1, b"WARN OVER");
     tool_print::flag(x[7] == 1, b"WARN UNDER");
     tool_print::flag(x[8] == 1, b"CRIT OVER");
     tool_print::flag(x[9] == 1, b"CRIT UNDER");
-    say_flags(x, x[5]);
+    say_flags(x, x[5], stored.flags1);
     say_percent_thresholds(t);
 }
 
-fn say_current(x: [u8; element_status::ENTRY], nominal: u16, t: [u8; 4]) {
+fn say_current(x: [u8; element_status::ENTRY], nominal: u16, t: [u8; 4], stored: Settings) {
     say_of_nominal(number(x[8], x[9]), nominal, b" A");
     tool_print::flag(x[6] == 1, b"WARN OVER");
     tool_print::flag(x[7] == 1, b"CRIT OVER");
-    say_flags(x, x[5]);
+    say_flags(x, x[5], stored.flags1);
     say_percent_thresholds(t);
 }
 
@@ -115,13 +116,21 @@ fn say_of_nominal(reading: u16, nominal: u16, unit: &[u8]) {
     tool_print::text(unit);
 }
 
-// The flags that every type here has; each shows IDENT first, and FAIL at a place of its own.
-fn say_flags(x: [u8; element_status::ENTRY], fail: u8) {
+// The flags that every type here has; each shows IDENT first, and FAIL at a place of its own. Of the stored flags, FAIL is bit 6.
+fn say_flags(x: [u8; element_status::ENTRY], fail: u8, stored: u8) {
     tool_print::flag(x[1] == 1, b"PRDFAIL");
     tool_print::flag(x[2] == 1, b"DISABLED");
     tool_print::flag(x[3] == 1, b"SWAP");
     tool_print::flag(x[4] == 1, b"IDENT");
-    tool_print::flag(fail == 1, b"FAIL");
+    say_fail(fail == 1, stored / 64 % 2 == 1);
+}
+
+// FAIL where it shows, and that it is not stored where it shows all the same.
+fn say_fail(is_shown: bool, is_stored: bool) {
+    tool_print::flag(is_shown, b"FAIL");
+    if is_shown & !is_stored {
+        tool_print::text(b" (not stored)");
+    }
 }
 
 fn say_degree_thresholds(t: [u8; 4]) {

@@ -185,6 +185,22 @@ impl Code {
     }
 }
 
+impl Kind {
+    /// The codes that an element of this type can have.
+    pub fn codes(self) -> &'static [Code] {
+        match self {
+            Kind::Cooling => &[Code::Normal, Code::Critical],
+            Kind::Temperature => &[
+                Code::Normal,
+                Code::Critical,
+                Code::NonCritical,
+                Code::NoReading,
+            ],
+            Kind::Voltage | Kind::Current => &[Code::Normal, Code::Critical, Code::NonCritical],
+        }
+    }
+}
+
 impl Limits {
     /// By what makes a limit trip as a high and as a low one; a limit of 0 never does.
     fn tripped(

@@ -11,6 +11,7 @@ mod configuration;
 mod control;
 mod coverage;
 mod descriptors;
+mod fail_before;
 mod status;
 mod threshold_out;
 mod thresholds;

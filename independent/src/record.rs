@@ -123,13 +123,6 @@ pub fn read(block: &[u8]) -> Option<Shelf> {
     (shelf.block() == block).then_some(shelf)
 }
 
-pub fn is_well_formed_block(block: &[u8]) -> bool {
-    match read(block) {
-        Some(shelf) => shelf.well_formed(),
-        None => false,
-    }
-}
-
 impl Shelf {
     pub fn well_formed(&self) -> bool {
         (1..=MOST_TYPES).contains(&self.groups.len())

@@ -1,6 +1,7 @@
 //! One element of the status page by its fields. A table for each type says which there are, and from it
 //! follow the element's four bytes on the page and its entry in a record, both ways.
 
+use crate::element::Code;
 use crate::limits::{FASTEST, HIGHEST_CODE, HIGHEST_SPEED, STATUS_ENTRY_BYTES};
 use crate::record::{Configuration, Element, FanSettings, Kind};
 use std::iter::{once, repeat, zip};
@@ -65,7 +66,7 @@ static COOLING: [Field; 7] = [
     flag(1, 7, ident),
     up_to(FASTEST.to_be_bytes()[0], 1, 0, upper_reading),
     whole_byte(2, lower_reading),
-    flag(3, 6, fail),
+    flag(3, 6, stored_fail),
     flag(3, 5, |element| fan_settings(element).on.into()),
     flag(3, 4, |element| (!fan_settings(element).on).into()),
     up_to(HIGHEST_SPEED, 3, 0, speed_code),
@@ -73,7 +74,7 @@ static COOLING: [Field; 7] = [
 
 static TEMPERATURE: [Field; 7] = [
     flag(1, 7, ident),
-    flag(1, 6, fail),
+    flag(1, 6, sensor_fail),
     whole_byte(2, lower_reading),
     flag(3, 3, critical_over),
     flag(3, 2, warning_over),
@@ -83,7 +84,7 @@ static TEMPERATURE: [Field; 7] = [
 
 static VOLTAGE: [Field; 8] = [
     flag(1, 7, ident),
-    flag(1, 6, fail),
+    flag(1, 6, sensor_fail),
     flag(1, 3, warning_over),
     flag(1, 2, warning_under),
     flag(1, 1, critical_over),
@@ -94,7 +95,7 @@ static VOLTAGE: [Field; 8] = [
 
 static CURRENT: [Field; 6] = [
     flag(1, 7, ident),
-    flag(1, 6, fail),
+    flag(1, 6, sensor_fail),
     flag(1, 3, warning_over),
     flag(1, 1, critical_over),
     whole_byte(2, upper_reading),
@@ -223,8 +224,15 @@ fn ident(element: &Element) -> u8 {
     element.settings().ident.into()
 }
 
-fn fail(element: &Element) -> u8 {
+/// What a fan shows as FAIL, whatever its code.
+fn stored_fail(element: &Element) -> u8 {
     element.settings().fail.into()
+}
+
+/// FAIL shows if the stored FAIL is set or the code is 2 or 3.
+fn sensor_fail(element: &Element) -> u8 {
+    let condition = matches!(element.verdict().code, Code::Critical | Code::NonCritical);
+    (element.settings().fail || condition).into()
 }
 
 /// Types other than Cooling have ON 0 and SPEED 0.

@@ -9,6 +9,7 @@ mod collectors;
 mod configuration;
 pub mod control;
 pub mod descriptors;
+mod fails;
 mod flaws;
 mod naming;
 mod reading;
@@ -47,4 +48,5 @@ pub fn offer_all(rng: &mut Rng, offer: Offer) {
         }
     }
     collecting::offer_all(rng, offer);
+    fails::offer_all(rng, offer);
 }

@@ -1,10 +1,12 @@
 //! Compares the twenty-one calls on pages, names and collectors with the library's.
 
-use super::before;
+use super::calls::{Answer, WRITE_STATUS};
 use super::cases::{self, case::Case};
 use super::coverage::Coverage;
+use super::{before, fail_before};
 use crate::hex;
 use crate::library::{request, Library};
+use crate::record;
 use crate::rng::Rng;
 use std::process::exit;
 
@@ -38,6 +40,7 @@ impl Comparison {
     fn take(&mut self, case: Case) {
         let expected = case.answer();
         hold_to_before(&case, expected.number);
+        hold_status_to_before(&case, &expected);
         self.coverage.count(&case, &expected);
         if self.waiting_bytes + expected.bytes.len() > ANSWERED_AT_ONCE {
             self.ask();
@@ -73,6 +76,23 @@ fn hold_to_before(case: &Case, number: u8) {
             exit(1)
         }
         _ => {}
+    }
+}
+
+/// A status page is that of before request Five, with FAIL lit as the request asks.
+fn hold_status_to_before(case: &Case, answer: &Answer) {
+    if case.call.letter != WRITE_STATUS.letter || answer.number != 0 {
+        return;
+    }
+    let shelf = record::read(&case.inputs[0]).expect("the shelf of an accepted call");
+    let lit = fail_before::lit(&shelf.configuration(), fail_before::page(&shelf));
+    let page = &answer.bytes[5..][..answer.written()];
+    if page != lit {
+        println!("pages: a status page with more than FAIL changed, or with less");
+        print_given(case);
+        print_bytes("as before, with FAIL", &lit);
+        print_bytes("now", page);
+        exit(1)
     }
 }
 

@@ -1,10 +1,12 @@
 //! How often the calls compared brought up each thing that they can.
 
 mod collected;
+mod fails;
 mod fans;
 mod names;
 mod refused;
 mod tally;
+mod trail;
 
 use super::calls::{
     self, Answer, APPLY_CONTROL, APPLY_THRESHOLDS, BUILD_CONTROL, EMPTY_COLLECTOR, END_PAGE,
@@ -17,11 +19,13 @@ use crate::bits::{bit, flag};
 use crate::record::{self, Configuration, Group, Shelf};
 use crate::shown::Place;
 use collected::Collected;
+use fails::Fails;
 use fans::{Entry, Fans};
 use names::Names;
 use refused::Refused;
 use std::iter::zip;
 use tally::{kind_name, place_name, Table, Tally, LEAST_OF_EACH};
+use trail::Trail;
 
 const CODES: Table = Table {
     title: "codes on the status pages written",
@@ -140,6 +144,8 @@ pub struct Coverage {
     refused: Refused,
     names: Names,
     fans: Fans,
+    fails: Fails,
+    trail: Trail,
     collected: Collected,
     codes: Tally,
     read: Tally,
@@ -175,26 +181,34 @@ impl Coverage {
         if call.letter == WRITE_STATUS.letter {
             let shelf = shelf_of(&inputs[0]);
             self.count_codes(&shelf);
-            self.fans.count_written(&shelf);
+            let trail = self.trail.written(&shelf);
+            self.fans.count_written(&shelf, trail);
+            let page = &answer.bytes[5..][..answer.written()];
+            self.fails.count_written(&shelf, page, trail);
         } else if call.letter == READ_STATUS.letter {
             let entries = entries_of(&inputs[0], answer.record());
             count_largest(&mut self.read, &entries);
             self.fans.count_read(&entries);
+            self.fails.count_read(&entries);
         } else if call.letter == REWRITE_STATUS.letter {
             let entries = entries_of(&inputs[0], &inputs[1]);
             count_largest(&mut self.rewritten, &entries);
             self.fans.count_rewritten(&entries);
+            self.fails.count_rewritten(&entries);
         } else if call.letter == APPLY_CONTROL.letter {
             let (before, after) = self.count_changed(call.name, lent, answer);
             self.count_selects(&before, &inputs[0]);
-            self.fans.count_controlled(&before, &after);
+            self.trail.controlled(&before, &after);
         } else if call.letter == APPLY_THRESHOLDS.letter {
-            let (before, _) = self.count_changed(call.name, lent, answer);
+            let (before, after) = self.count_changed(call.name, lent, answer);
             self.count_sources(&before, &inputs[0]);
+            self.fails.count_moved(&before, &after);
         } else if call.letter == BUILD_CONTROL.letter {
             let shelf = shelf_of(&inputs[0]);
-            self.count_built(&shelf, answer);
+            let page = &answer.bytes[9..][..answer.written()];
+            self.count_built(&shelf, page, answer.selects());
             self.fans.count_wanted(&shelf, &inputs[1]);
+            self.fails.count_wanted(&shelf, &inputs[1], page);
         }
     }
 
@@ -225,6 +239,7 @@ impl Coverage {
         enough &= self.refused.print();
         enough &= self.names.print();
         enough &= self.fans.print();
+        enough &= self.fails.print();
         enough &= self.collected.print();
         if !enough {
             println!("too few: at least {LEAST_OF_EACH} of each are wanted");
@@ -274,14 +289,14 @@ impl Coverage {
                 let mut in_turn = [individual, asked.overall].into_iter();
                 if let Some(acting) = in_turn.find(|asked| select(*asked)) {
                     self.fans.count_asked(element, acting);
+                    self.fails.count_asked(element, acting);
                 }
             }
         }
     }
 
-    fn count_built(&mut self, shelf: &Shelf, answer: &Answer) {
-        self.built.count("SELECTs", answer.selects().min(3) as u8);
-        let page = &answer.bytes[9..][..answer.written()];
+    fn count_built(&mut self, shelf: &Shelf, page: &[u8], selects: usize) {
+        self.built.count("SELECTs", selects.min(3) as u8);
         for (group, asked) in by_group(shelf, page) {
             let name = if group.elements.is_empty() {
                 "without elements"

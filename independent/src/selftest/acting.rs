@@ -2,9 +2,9 @@
 
 use super::checks::Checks;
 use super::examples::{
-    block_a, current, elements_in, fan, fan_with, group, handed_back, plain, shelf_a, shelf_a_of,
-    stopped, temperature, wishes_of_the_paper, with, ALL_FLAGS, NOISE, RST_SWAP, SPEED_5, SWAP,
-    UNSELECTED,
+    block_a, current, elements_in, fan, fan_with, group, handed_back, plain, sensors_shown, set_to,
+    shelf_a, shelf_a_of, stopped, temperature, voltage, wishes_of_the_paper, with, without_limits,
+    ALL_FLAGS, FAIL, NOISE, RST_SWAP, SPEED_5, SWAP, UNSELECTED,
 };
 use crate::cases;
 use crate::limits::{ELEMENTS_AT, ELEMENT_BYTES, HIGHEST_SPEED, TYPES_AT};
@@ -25,6 +25,8 @@ pub fn check(checks: &mut Checks) {
     requested_speeds(checks);
     stopped_and_started(checks);
     speeds_while_stopped(checks);
+    fails_asked(checks);
+    limits_moved(checks);
     reserved_bits(checks);
     page_byte_1(checks);
     types_apart(checks);
@@ -32,6 +34,7 @@ pub fn check(checks: &mut Checks) {
     thresholds_refused(checks);
     order_in_one_of_many(checks);
     laws(checks);
+    limits_without_a_say(checks);
 }
 
 fn control_page(elements: &[[u8; 4]]) -> Vec<u8> {
@@ -235,6 +238,91 @@ fn speeds_while_stopped(checks: &mut Checks) {
             let on = apply_control(off.record(), &control_page(&elements));
             let status = vec![0x01, 0x00, 0x78, 0x20 + speed];
             checks.equal("requested speed, shown", shown(&on), status);
+        }
+    }
+}
+
+/// What is stored is what was asked for, whatever shows: past a limit, FAIL does.
+fn fails_asked(checks: &mut Checks) {
+    for (sensor, without, with_fail) in sensors_shown() {
+        let of = |common| shelf_a_of(sensor.kind(), vec![set_to(common, sensor)]);
+        let asked = [
+            ([0x80, 0x00, 0x00, 0x00], Settings::default(), without),
+            ([0x80, 0x40, 0x00, 0x00], FAIL, with_fail),
+        ];
+        for before in [of(Settings::default()), of(FAIL)] {
+            for (element, after, status) in asked {
+                for elements in [[UNSELECTED, element], [element, NOISE]] {
+                    let answer = apply_control(&before.block(), &control_page(&elements));
+                    checks.equal("FAIL as asked", &answer, &accepted(&of(after)));
+                    let status = status.to_be_bytes().to_vec();
+                    checks.equal("FAIL as asked, shown", shown(&answer), status);
+                }
+            }
+            let answer = apply_control(&before.block(), &control_page(&[NOISE, NOISE]));
+            checks.equal("FAIL not asked", answer, accepted(&before));
+        }
+    }
+}
+
+/// A sensor past a limit, that limit out of the way and back, and what is shown then, without a stored FAIL.
+const LIMITS_MOVED: [(Kind, i16, [[u8; 4]; 2], [u32; 2]); 5] = [
+    (
+        Kind::Temperature,
+        65,
+        [[0, 65, 0, 0], [0, 64, 0, 0]],
+        [0x0100_4100, 0x0340_4104],
+    ),
+    (
+        Kind::Temperature,
+        9,
+        [[0, 0, 0, 9], [0, 0, 0, 10]],
+        [0x0100_0900, 0x0240_0902],
+    ),
+    (
+        Kind::Voltage,
+        359,
+        [[0, 6, 0, 0], [0, 5, 0, 0]],
+        [0x0100_0167, 0x0348_0167],
+    ),
+    (
+        Kind::Voltage,
+        341,
+        [[0, 0, 0, 6], [0, 0, 0, 5]],
+        [0x0100_0155, 0x0241_0155],
+    ),
+    (
+        Kind::Current,
+        359,
+        [[6, 0, 0, 0], [5, 0, 0, 0]],
+        [0x0100_0167, 0x0242_0167],
+    ),
+];
+
+/// FAIL comes and goes with a tripped limit unless it is stored, and what is stored stays.
+fn limits_moved(checks: &mut Checks) {
+    for (kind, reading, [away, back], [calm, tripped]) in LIMITS_MOVED {
+        let sensor = |limits| match kind {
+            Kind::Temperature => temperature(reading as u16, limits),
+            Kind::Voltage => voltage(reading, 350, limits),
+            _ => current(reading, 350, limits),
+        };
+        for (common, fail) in [(Settings::default(), 0), (FAIL, 0x0040_0000)] {
+            let with_limits = |bytes| {
+                let sensor = set_to(common, sensor(Thresholds::from_bytes(bytes)));
+                shelf_a_of(kind, vec![sensor])
+            };
+            let moved = |before: &[u8], limits| {
+                apply_thresholds(before, &threshold_page(&[[0; 4], limits]))
+            };
+            let off = moved(&with_limits(back).block(), away);
+            checks.equal("limit away", &off, &accepted(&with_limits(away)));
+            let status = (calm + fail).to_be_bytes().to_vec();
+            checks.equal("limit away, shown", shown(&off), status);
+            let on = moved(off.record(), back);
+            checks.equal("limit back", &on, &accepted(&with_limits(back)));
+            let status = tripped.to_be_bytes().to_vec();
+            checks.equal("limit back, shown", shown(&on), status);
         }
     }
 }
@@ -472,5 +560,18 @@ fn laws(checks: &mut Checks) {
             let page = (law.accepted_page)(&mut rng, &shelf);
             law.hold(checks, &shelf, &page);
         }
+    }
+}
+
+/// A control page leaves the same settings where limits trip and where there are none.
+fn limits_without_a_say(checks: &mut Checks) {
+    let mut rng = Rng::new(SEED);
+    for _ in 0..ROUNDS {
+        let shelf = cases::shelf(&mut rng);
+        let page = control::accepted_page(&mut rng, &shelf);
+        let after = apply_control(&shelf.block(), &page);
+        let calm = apply_control(&without_limits(shelf).block(), &page);
+        let alike = alike_but_for(4, after.record(), calm.record());
+        checks.equal("control: no limit has a say", alike, true);
     }
 }

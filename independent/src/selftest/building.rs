@@ -3,8 +3,9 @@
 
 use super::checks::Checks;
 use super::examples::{
-    block_a, elements_in, fan, fan_with, fans_a, group, plain, shelf_a, shelf_a_of, stopped,
-    wishes_of_the_paper, with, Example, BEFORE, NOISE, RST_SWAP, SPEED_5, SWAP, UNSELECTED,
+    block_a, elements_in, fan, fan_with, fans_a, group, high_warning, plain, sensors_shown, set_to,
+    shelf_a, shelf_a_of, stopped, temperature, wishes_of_the_paper, with, without_limits, Example,
+    BEFORE, FAIL, NOISE, RST_SWAP, SPEED_5, SWAP, UNSELECTED,
 };
 use crate::cases;
 use crate::element::Request;
@@ -12,7 +13,7 @@ use crate::limits::{ELEMENTS_AT, ELEMENT_BYTES, HIGHEST_SPEED, TYPES_AT};
 use crate::pages::calls::{apply_control, build_control, write_status, Answer};
 use crate::pages::cases::control;
 use crate::pages::cases::wishes::Few;
-use crate::record::{Element, Kind};
+use crate::record::{Element, Kind, Settings};
 use crate::rng::Rng;
 use std::collections::BTreeMap;
 
@@ -22,6 +23,8 @@ const ROUNDS: usize = 300;
 pub fn check(checks: &mut Checks) {
     fans_a_wished(checks);
     same_status_other_page(checks);
+    fails_wished(checks);
+    fails_of_three_wished(checks);
     order_of_refusals(checks);
     records_of_types(checks);
     types_apart(checks);
@@ -167,6 +170,74 @@ fn same_status_other_page(checks: &mut Checks) {
             build_control(&block, &wish, &[BEFORE; 24]),
             built(&page, 1, 24),
         );
+    }
+}
+
+const FAILED: [u8; 4] = [0x80, 0x40, 0x00, 0x00];
+const CLEARED: [u8; 4] = [0x80, 0x00, 0x00, 0x00];
+
+/// By what is stored: past a limit FAIL shows all the same, and the status page does not tell.
+fn fails_wished(checks: &mut Checks) {
+    let header = [0x02, 0x00, 0x00, 0x0C, 0x00, 0x00, 0x00, 0x07];
+    for (sensor, _, _) in sensors_shown() {
+        let of = |common| shelf_a_of(sensor.kind(), vec![set_to(common, sensor)]).block();
+        let (clear, failed) = (of(Settings::default()), of(FAIL));
+        let cases = [
+            ("FAIL not stored nor wanted", &clear, 0x00, UNSELECTED, 0),
+            ("FAIL not stored, wanted", &clear, 0x40, FAILED, 1),
+            ("FAIL stored, not wanted", &failed, 0x00, CLEARED, 1),
+            ("FAIL stored and wanted", &failed, 0x40, UNSELECTED, 0),
+        ];
+        for (what, block, wanted, element, selects) in cases {
+            let page = [&header[..], &UNSELECTED, &element].concat();
+            let answer = build_control(block, &[0x00, wanted, 0x00, 0x00], &[BEFORE; 16]);
+            checks.equal(what, answer, built(&page, selects, 16));
+        }
+    }
+    let status = [
+        0x02, 0x04, 0x00, 0x0C, 0x00, 0x00, 0x00, 0x07, 0x03, 0x00, 0x00, 0x00, 0x03, 0x40, 0x41,
+        0x04,
+    ];
+    for common in [Settings::default(), FAIL] {
+        let warm = set_to(common, temperature(65, high_warning(64)));
+        let block = shelf_a_of(Kind::Temperature, vec![warm]).block();
+        let answer = write_status(&block, &[BEFORE; 16]);
+        checks.equal("the same status", &answer.bytes[5..], &status[..]);
+    }
+}
+
+/// The first and the last show FAIL, and the last has it stored.
+fn fails_of_three_wished(checks: &mut Checks) {
+    let warm = temperature(65, high_warning(64));
+    let cool = temperature(64, high_warning(64));
+    let sensors = vec![warm, cool, set_to(FAIL, warm)];
+    let block = shelf_a_of(Kind::Temperature, sensors).block();
+    let cases = [
+        (
+            "FAIL of none",
+            [0x00; 3],
+            [UNSELECTED, UNSELECTED, UNSELECTED, CLEARED],
+        ),
+        (
+            "FAIL of all",
+            [0x40; 3],
+            [FAILED, UNSELECTED, UNSELECTED, UNSELECTED],
+        ),
+        (
+            "FAIL of the first and last",
+            [0x40, 0x00, 0x40],
+            [UNSELECTED, FAILED, UNSELECTED, UNSELECTED],
+        ),
+        (
+            "FAIL of the middle and last",
+            [0x00, 0x40, 0x40],
+            [UNSELECTED, UNSELECTED, FAILED, UNSELECTED],
+        ),
+    ];
+    for (what, wanted, elements) in cases {
+        let wanted = wanted.map(|byte1| [0x00, byte1, 0x00, 0x00]).concat();
+        let answer = build_control(&block, &wanted, &[BEFORE; 24]);
+        checks.equal(what, answer, built(&page_a(elements), 1, 24));
     }
 }
 
@@ -496,6 +567,9 @@ fn laws(checks: &mut Checks) {
         let wish = settings_of(after.record());
         let answer = build_control(&before, &wish, &vec![BEFORE; any_page.len()]);
         checks.equal("a wish that a page reaches", answer.number, 0);
+        let calm = without_limits(shelf).block();
+        let alike = build_control(&calm, &wish, &vec![BEFORE; any_page.len()]);
+        checks.equal("no limit has a say", &alike, &answer);
         let page = &answer.bytes[9..];
         checks.equal("as any page", apply_control(&before, page), after);
         let (this, other) = (selects_on(page), selects_on(&any_page));

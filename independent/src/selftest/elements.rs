@@ -3,7 +3,8 @@
 use super::checks::Checks;
 use super::examples::{
     current, fan, fan_at, fan_like, fans_a, high_critical, high_warning, largest_shelf,
-    low_critical, low_warning, shelf_a, stopped, temperature, voltage, ALL_FLAGS,
+    low_critical, low_warning, sensors_shown, set_to, shelf_a, stopped, temperature, voltage,
+    ALL_BUT_FAIL, ALL_FLAGS, FAIL,
 };
 use crate::element::{Code, Limits, Verdict};
 use crate::limits::{
@@ -17,6 +18,8 @@ pub fn check(checks: &mut Checks) {
     temperature_verdicts(checks);
     voltage_verdicts(checks);
     current_verdicts(checks);
+    sensors_fail(checks);
+    fans_fail(checks);
     thresholds(checks);
     block_of_fans_a(checks);
 }
@@ -124,10 +127,10 @@ fn temperature_verdicts(checks: &mut Checks) {
     verdicts_of(checks, verdicts);
     checks.equal("byte 0", silent.verdict().code, Code::NoReading);
     let shown = [
-        ("OT WARNING shown", warm, [0x03, 0x00, 0x41, 0x04]),
-        ("OT FAILURE shown", hot, [0x02, 0x00, 0x41, 0x08]),
-        ("UT FAILURE shown", cold, [0x02, 0x00, 0x09, 0x02]),
-        ("UT WARNING shown", chilly, [0x03, 0x00, 0x09, 0x01]),
+        ("OT WARNING shown", warm, [0x03, 0x40, 0x41, 0x04]),
+        ("OT FAILURE shown", hot, [0x02, 0x40, 0x41, 0x08]),
+        ("UT FAILURE shown", cold, [0x02, 0x40, 0x09, 0x02]),
+        ("UT WARNING shown", chilly, [0x03, 0x40, 0x09, 0x01]),
         ("byte 0 shown", silent, [0x06, 0x00, 0x00, 0x00]),
     ];
     shown_of(checks, shown);
@@ -155,10 +158,10 @@ fn voltage_verdicts(checks: &mut Checks) {
     ];
     verdicts_of(checks, verdicts);
     let shown = [
-        ("CRIT OVER shown", above, [0x02, 0x02, 0x05, 0x29]),
-        ("WARN OVER shown", above_half, [0x03, 0x08, 0x01, 0x67]),
-        ("CRIT UNDER shown", negative, [0x02, 0x01, 0xFF, 0xFF]),
-        ("WARN UNDER shown", low, [0x03, 0x04, 0x04, 0x37]),
+        ("CRIT OVER shown", above, [0x02, 0x42, 0x05, 0x29]),
+        ("WARN OVER shown", above_half, [0x03, 0x48, 0x01, 0x67]),
+        ("CRIT UNDER shown", negative, [0x02, 0x41, 0xFF, 0xFF]),
+        ("WARN UNDER shown", low, [0x03, 0x44, 0x04, 0x37]),
     ];
     shown_of(checks, shown);
 }
@@ -170,11 +173,47 @@ fn current_verdicts(checks: &mut Checks) {
     let negative = current(-1, 1200, high_critical(20));
     let shown = [
         ("current at its limit", at_limit, [0x01, 0x00, 0x05, 0x28]),
-        ("CRIT OVER shown", above, [0x02, 0x02, 0x05, 0x29]),
-        ("WARN OVER shown", warned, [0x03, 0x08, 0x01, 0x67]),
+        ("CRIT OVER shown", above, [0x02, 0x42, 0x05, 0x29]),
+        ("WARN OVER shown", warned, [0x03, 0x48, 0x01, 0x67]),
         ("negative current", negative, [0x01, 0x00, 0xFF, 0xFF]),
     ];
     shown_of(checks, shown);
+}
+
+fn sensors_fail(checks: &mut Checks) {
+    for (sensor, without, with_fail) in sensors_shown() {
+        let others = 0x7080_0000;
+        let shown = [
+            ("FAIL not stored", sensor, without),
+            ("FAIL stored", set_to(FAIL, sensor), with_fail),
+            (
+                "all but FAIL",
+                set_to(ALL_BUT_FAIL, sensor),
+                others + without,
+            ),
+            ("all flags", set_to(ALL_FLAGS, sensor), others + with_fail),
+        ];
+        let shown = shown.map(|(what, sensor, status)| (what, sensor, status.to_be_bytes()));
+        shown_of(checks, shown);
+    }
+}
+
+/// A fan has FAIL in another byte, and shows the stored one with any code.
+fn fans_fail(checks: &mut Checks) {
+    let fans = [
+        (fan(3), [0x01, 0x00, 0x78, 0x23]),
+        (fan_at(0), [0x02, 0x00, 0x00, 0x23]),
+        (stopped(fan_at(0)), [0x01, 0x00, 0x00, 0x10]),
+    ];
+    for (fan, [byte0, byte1, byte2, byte3]) in fans {
+        let (failed, others) = (set_to(FAIL, fan), set_to(ALL_BUT_FAIL, fan));
+        let shown = [
+            ("FAIL not stored", fan, [byte0, byte1, byte2, byte3]),
+            ("FAIL stored", failed, [byte0, byte1, byte2, 0x40 + byte3]),
+            ("all but FAIL", others, [0x70 + byte0, 0x80, byte2, byte3]),
+        ];
+        shown_of(checks, shown);
+    }
 }
 
 fn thresholds(checks: &mut Checks) {

@@ -35,6 +35,19 @@ pub const ALL_FLAGS: Settings = Settings {
     fail: true,
 };
 
+pub const FAIL: Settings = Settings {
+    prdfail: false,
+    disabled: false,
+    swap: false,
+    ident: false,
+    fail: true,
+};
+
+pub const ALL_BUT_FAIL: Settings = Settings {
+    fail: false,
+    ..ALL_FLAGS
+};
+
 /// A fan as in shelf A, but for its speed code.
 pub fn fan(speed: u8) -> Element {
     fan_with(Settings::default(), speed)
@@ -67,6 +80,17 @@ pub fn stopped(mut fan: Element) -> Element {
         settings.on = false;
     }
     fan
+}
+
+/// The element with these settings, and a fan's ON and SPEED as they are.
+pub fn set_to(common: Settings, mut element: Element) -> Element {
+    match &mut element {
+        Element::Cooling { settings, .. } => settings.common = common,
+        Element::Temperature { settings, .. }
+        | Element::Voltage { settings, .. }
+        | Element::Current { settings, .. } => *settings = common,
+    }
+    element
 }
 
 /// Three fans of a shelf like A, stored and wanted; the best page's elements, and the SELECTs among them.
@@ -174,6 +198,63 @@ pub fn current(reading: i16, nominal: u16, thresholds: Thresholds) -> Element {
     }
 }
 
+/// Sensors at their limits and past them. What is shown of each, without any setting and with a stored FAIL alone:
+/// past a limit, the same.
+pub fn sensors_shown() -> [(Element, u32, u32); 20] {
+    let both_high = Thresholds::from_bytes([64, 64, 0, 0]);
+    let all = Thresholds::from_bytes([64, 64, 10, 10]);
+    [
+        (temperature(64, high_warning(64)), 0x0100_4000, 0x0140_4000),
+        (temperature(65, high_warning(64)), 0x0340_4104, 0x0340_4104),
+        (temperature(64, high_critical(64)), 0x0100_4000, 0x0140_4000),
+        (temperature(65, high_critical(64)), 0x0240_4108, 0x0240_4108),
+        (temperature(65, both_high), 0x0240_410C, 0x0240_410C),
+        (temperature(10, low_warning(10)), 0x0100_0A00, 0x0140_0A00),
+        (temperature(9, low_warning(10)), 0x0340_0901, 0x0340_0901),
+        (temperature(9, low_critical(10)), 0x0240_0902, 0x0240_0902),
+        (temperature(0, all), 0x0600_0000, 0x0640_0000),
+        (voltage(358, 350, high_warning(5)), 0x0100_0166, 0x0140_0166),
+        (voltage(359, 350, high_warning(5)), 0x0348_0167, 0x0348_0167),
+        (
+            voltage(1320, 1200, high_critical(20)),
+            0x0100_0528,
+            0x0140_0528,
+        ),
+        (
+            voltage(1321, 1200, high_critical(20)),
+            0x0242_0529,
+            0x0242_0529,
+        ),
+        (
+            voltage(1079, 1200, low_warning(20)),
+            0x0344_0437,
+            0x0344_0437,
+        ),
+        (
+            voltage(-1, 1200, low_critical(20)),
+            0x0241_FFFF,
+            0x0241_FFFF,
+        ),
+        (current(358, 350, high_warning(5)), 0x0100_0166, 0x0140_0166),
+        (current(359, 350, high_warning(5)), 0x0348_0167, 0x0348_0167),
+        (
+            current(1320, 1200, high_critical(20)),
+            0x0100_0528,
+            0x0140_0528,
+        ),
+        (
+            current(1321, 1200, high_critical(20)),
+            0x0242_0529,
+            0x0242_0529,
+        ),
+        (
+            current(-1, 1200, high_critical(20)),
+            0x0100_FFFF,
+            0x0140_FFFF,
+        ),
+    ]
+}
+
 pub fn high_critical(high_critical: u8) -> Thresholds {
     Thresholds {
         high_critical,
@@ -226,6 +307,16 @@ pub fn largest_shelf() -> Shelf {
         .collect();
     let nothing = group(Kind::Cooling, Vec::new());
     shelf.groups.resize(MOST_TYPES, nothing);
+    shelf
+}
+
+/// No limit is left, so that no sensor has code 2 or 3.
+pub fn without_limits(mut shelf: Shelf) -> Shelf {
+    for group in &mut shelf.groups {
+        for element in &mut group.elements {
+            *element.thresholds_mut() = Thresholds::default();
+        }
+    }
     shelf
 }
 

@@ -3,8 +3,8 @@
 use super::checks::Checks;
 use super::examples::{
     block_a, current, fan, fan_at, fan_like, fans_a, group, handed_back, high_critical,
-    high_warning, low_critical, plain, shelf_a, shelf_a_of, stopped, temperature, voltage, with,
-    ALL_FLAGS, BEFORE, SWAP,
+    high_warning, low_critical, plain, set_to, shelf_a, shelf_a_of, stopped, temperature, voltage,
+    with, ALL_FLAGS, BEFORE, FAIL, SWAP,
 };
 use crate::limits::{
     CONFIGURATION_BYTES, FASTEST, HIGHEST_CODE, HIGHEST_SPEED, STATUS_BYTES, STATUS_ENTRY_BYTES,
@@ -14,7 +14,7 @@ use crate::pages::calls::{
     read_configuration, read_status, read_thresholds, rewrite_configuration, rewrite_status,
     rewrite_thresholds, write_configuration, write_status, write_thresholds, Answer,
 };
-use crate::record::{Element, Kind, Thresholds};
+use crate::record::{Element, Kind, Settings, Thresholds};
 
 const STATUS_A: [u8; 24] = [
     0x02, 0x00, 0x00, 0x14, 0x00, 0x00, 0x00, 0x07, 0x01, 0x00, 0x00, 0x00, 0x01, 0x00, 0x78, 0x23,
@@ -37,6 +37,7 @@ pub fn check(checks: &mut Checks) {
     statuses_handed_back(checks);
     fields_handed_back(checks);
     speed_codes_as_shown(checks);
+    fails_as_shown(checks);
     statuses_rewritten(checks);
     fields_rewritten(checks);
     worst_codes(checks);
@@ -282,13 +283,15 @@ fn record_a() -> Vec<u8> {
 }
 
 /// Elements of each type, with all flags that they can show at once, and their entries.
-fn entries_of_elements() -> [(Element, [u8; STATUS_ENTRY_BYTES]); 7] {
+fn entries_of_elements() -> [(Element, [u8; STATUS_ENTRY_BYTES]); 11] {
     let fast = fan_like(ALL_FLAGS, 7, 2047);
     let slow = fan_like(SWAP, 1, 258);
     let cold = temperature(9, Thresholds::from_bytes([8, 8, 10, 10]));
     let negative = voltage(-1, 1200, Thresholds::from_bytes([0, 0, 20, 20]));
     let high = voltage(1321, 1200, Thresholds::from_bytes([20, 0, 0, 0]));
     let above = current(1321, 1200, Thresholds::from_bytes([20, 20, 0, 0]));
+    let failed = set_to(FAIL, temperature(64, Thresholds::default()));
+    let silent = temperature(0, Thresholds::default());
     [
         (fast, [1, 1, 1, 1, 1, 7, 255, 1, 1, 0, 7, 0, 0, 0, 0, 0]),
         (
@@ -296,13 +299,20 @@ fn entries_of_elements() -> [(Element, [u8; STATUS_ENTRY_BYTES]); 7] {
             [1, 1, 1, 1, 1, 7, 255, 1, 0, 1, 0, 0, 0, 0, 0, 0],
         ),
         (slow, [1, 0, 0, 1, 0, 1, 2, 0, 1, 0, 1, 0, 0, 0, 0, 0]),
-        (cold, [2, 0, 0, 0, 0, 0, 9, 1, 1, 1, 1, 0, 0, 0, 0, 0]),
+        (fan_at(0), [2, 0, 0, 0, 0, 0, 0, 0, 1, 0, 3, 0, 0, 0, 0, 0]),
+        (cold, [2, 0, 0, 0, 0, 1, 9, 1, 1, 1, 1, 0, 0, 0, 0, 0]),
+        (failed, [1, 0, 0, 0, 0, 1, 64, 0, 0, 0, 0, 0, 0, 0, 0, 0]),
+        (silent, [6, 0, 0, 0, 0, 0, 0, 0, 0, 0, 0, 0, 0, 0, 0, 0]),
+        (
+            set_to(FAIL, silent),
+            [6, 0, 0, 0, 0, 1, 0, 0, 0, 0, 0, 0, 0, 0, 0, 0],
+        ),
         (
             negative,
-            [2, 0, 0, 0, 0, 0, 0, 1, 0, 1, 255, 255, 0, 0, 0, 0],
+            [2, 0, 0, 0, 0, 1, 0, 1, 0, 1, 255, 255, 0, 0, 0, 0],
         ),
-        (high, [2, 0, 0, 0, 0, 0, 0, 0, 1, 0, 5, 41, 0, 0, 0, 0]),
-        (above, [2, 0, 0, 0, 0, 0, 1, 1, 5, 41, 0, 0, 0, 0, 0, 0]),
+        (high, [2, 0, 0, 0, 0, 1, 0, 0, 1, 0, 5, 41, 0, 0, 0, 0]),
+        (above, [2, 0, 0, 0, 0, 1, 1, 1, 5, 41, 0, 0, 0, 0, 0, 0]),
     ]
 }
 
@@ -397,6 +407,49 @@ fn speed_codes_as_shown(checks: &mut Checks) {
     }
 }
 
+/// An element with this code and FAIL, and its entry; a sensor has a warning bit too.
+fn code_and_fail(kind: Kind, code: u8, fail: u8) -> ([u8; 4], [u8; STATUS_ENTRY_BYTES]) {
+    match kind {
+        Kind::Cooling => (
+            [code, 0x00, 0x78, 0x40 * fail + 0x23],
+            [code, 0, 0, 0, 0, 0, 120, fail, 1, 0, 3, 0, 0, 0, 0, 0],
+        ),
+        Kind::Temperature => (
+            [code, 0x40 * fail, 0x41, 0x04],
+            [code, 0, 0, 0, 0, fail, 65, 0, 1, 0, 0, 0, 0, 0, 0, 0],
+        ),
+        Kind::Voltage => (
+            [code, 0x40 * fail + 0x08, 0x01, 0x67],
+            [code, 0, 0, 0, 0, fail, 1, 0, 0, 0, 1, 103, 0, 0, 0, 0],
+        ),
+        Kind::Current => (
+            [code, 0x40 * fail + 0x08, 0x01, 0x67],
+            [code, 0, 0, 0, 0, fail, 1, 0, 1, 103, 0, 0, 0, 0, 0, 0],
+        ),
+    }
+}
+
+/// Code and FAIL in every combination, those that no shelf shows among them.
+fn fails_as_shown(checks: &mut Checks) {
+    for kind in Kind::ALL {
+        let shelf = shelf_a_of(kind, vec![plain(kind)]);
+        let configuration = shelf.configuration().block();
+        for code in 0..=HIGHEST_CODE {
+            for fail in [0, 1] {
+                let (element, entry) = code_and_fail(kind, code, fail);
+                let page = [&HEADER_OF_TWO[..], &[1, 0, 0, 0], &element].concat();
+                let mut record = [&[0, 0, 0, 2][..], &OVERALL_OK, &entry].concat();
+                record.resize(STATUS_BYTES, BEFORE);
+                let what = format!("{kind:?}, code {code}, FAIL {fail}");
+                let answer = read_status(&configuration, &page, &[BEFORE; STATUS_BYTES]);
+                checks.equal(&what, answer, handed_back(0, 0, &record));
+                let again = rewrite_status(&configuration, &record, &[BEFORE; 16]);
+                checks.equal(&what, again, written(&page, 16));
+            }
+        }
+    }
+}
+
 /// The largest value of each byte of an entry, 0 where the type shows nothing.
 fn largest_values() -> [(Kind, [u8; STATUS_ENTRY_BYTES]); 4] {
     let (code, speed_code) = (HIGHEST_CODE, HIGHEST_SPEED);
@@ -460,18 +513,21 @@ fn worst_codes(checks: &mut Checks) {
         (&[normal, silent], 6, 0x00),
     ];
     for (elements, code, byte1) in worst {
-        let shelf = shelf_a_of(Kind::Temperature, elements.to_vec());
-        let page = write_status(&shelf.block(), &[BEFORE; 24]).bytes[5..].to_vec();
-        checks.equal("worst code", &page[8..12], &[code, 0, 0, 0]);
-        checks.equal("page byte 1", page[1], byte1);
+        for common in [Settings::default(), FAIL, ALL_FLAGS] {
+            let elements = elements.iter().map(|element| set_to(common, *element));
+            let shelf = shelf_a_of(Kind::Temperature, elements.collect());
+            let page = write_status(&shelf.block(), &[BEFORE; 24]).bytes[5..].to_vec();
+            checks.equal("worst code", &page[8..12], &[code, 0, 0, 0]);
+            checks.equal("page byte 1", page[1], byte1);
+        }
     }
     let mut two_types = shelf_a_of(Kind::Temperature, vec![warm]);
     let low = voltage(-1, 1200, low_critical(20));
     two_types.groups.push(group(Kind::Voltage, Vec::new()));
     two_types.groups.push(group(Kind::Voltage, vec![low]));
     let expected = [
-        0x02, 0x06, 0x00, 0x18, 0x00, 0x00, 0x00, 0x07, 0x03, 0, 0, 0, 0x03, 0x00, 0x41, 0x04, 0,
-        0, 0, 0, 0x02, 0, 0, 0, 0x02, 0x01, 0xFF, 0xFF,
+        0x02, 0x06, 0x00, 0x18, 0x00, 0x00, 0x00, 0x07, 0x03, 0, 0, 0, 0x03, 0x40, 0x41, 0x04, 0,
+        0, 0, 0, 0x02, 0, 0, 0, 0x02, 0x41, 0xFF, 0xFF,
     ];
     checks.equal(
         "an empty type between two",

@@ -149,13 +149,17 @@ fn any_shelf(rng: &mut Rng) -> Shelf {
 /// Every wish over all that can be stored.
 fn every_wish(rng: &mut Rng, few: &Few, offer: Offer) {
     let shelf = one_type(rng, few.kind, few.count);
+    every_wish_over(rng, &shelf, few, offer);
+}
+
+pub fn every_wish_over(rng: &mut Rng, shelf: &Shelf, few: &Few, offer: Offer) {
     let lists = lists_of(&few.settings(), few.count);
     for stored in &lists {
         for wanted in &lists {
             let pairs = stored.iter().zip(wanted);
             let pairs = pairs.map(|(&stored, &wanted)| Pair { stored, wanted });
             let pairs: Vec<Pair> = pairs.collect();
-            offer(Wish::from(&shelf, &pairs).roomy_case(rng));
+            offer(Wish::from(shelf, &pairs).roomy_case(rng));
         }
     }
 }

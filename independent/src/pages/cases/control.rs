@@ -12,6 +12,7 @@ use crate::rng::Rng;
 use std::array::from_fn;
 
 const SELECT: u32 = 0x8000_0000;
+const SWAP_AND_SPEED: u32 = 0x1000_0007;
 
 pub static CONTROL: Actor = Actor {
     call: &APPLY_CONTROL,
@@ -38,7 +39,7 @@ pub fn offer_all(rng: &mut Rng, offer: Offer) {
         offer(as_stored(rng));
     }
     for _ in 0..300 {
-        there_and_back(rng, offer);
+        stopped_and_started(rng, offer);
     }
 }
 
@@ -270,17 +271,30 @@ fn individual_settings(shelf: &Shelf) -> Vec<(Slot, [u8; 4])> {
     individual.zip(settings).collect()
 }
 
-/// One page stops fans that are ON and starts stopped ones, the next takes that back, and neither asks for a
-/// speed. The status page is written before, between and after.
-fn there_and_back(rng: &mut Rng, offer: Offer) {
+/// Fans that are ON are stopped and stopped ones started, without a speed being asked for.
+fn stopped_and_started(rng: &mut Rng, offer: Offer) {
     let shelf = if rng.one_in(2) {
         some_of_each(rng)
     } else {
         let count = rng.range(1, most_elements_of(1));
         one_type(rng, Kind::Cooling, count)
     };
+    there_and_back(rng, &shelf, on_bit, offer);
+}
+
+/// None for a type that has no ON.
+fn on_bit(kind: Kind) -> u32 {
+    match kind {
+        Kind::Cooling => 0x0000_0020,
+        Kind::Temperature | Kind::Voltage | Kind::Current => 0,
+    }
+}
+
+/// One page turns a setting of some elements, the next takes that back, and neither does more. The status page is
+/// written before, between and after.
+pub fn there_and_back(rng: &mut Rng, shelf: &Shelf, bit: fn(Kind) -> u32, offer: Offer) {
     let before = shelf.block();
-    let [there, back] = turning_pages(rng, &shelf);
+    let [there, back] = turning_pages(rng, shelf, bit);
     let there = CONTROL.case_of(before.clone(), there);
     let between = there.answer().record().to_vec();
     let back = CONTROL.case_of(between.clone(), back);
@@ -293,15 +307,16 @@ fn there_and_back(rng: &mut Rng, offer: Offer) {
     offer(roomy_case(rng, &WRITE_STATUS, vec![after]));
 }
 
-/// For some fans the other ON and then the one that they have, all else as it is.
-fn turning_pages(rng: &mut Rng, shelf: &Shelf) -> [Vec<u8>; 2] {
+/// For some elements of types that have the bit, its other value and then the one that they have, all else as it is.
+fn turning_pages(rng: &mut Rng, shelf: &Shelf, bit: fn(Kind) -> u32) -> [Vec<u8>; 2] {
     let often = Chance::any(rng);
     let [mut there, mut back] = [CONTROL.blank(shelf), CONTROL.blank(shelf)];
-    for (slot, [byte0, byte1, _, byte3]) in individual_settings(shelf) {
-        if slot.kind == Kind::Cooling && often.comes(rng) {
-            let (byte0, byte3) = (0x80 | byte0 & 0x60, byte3 & 0x60);
-            put(&mut there, slot, [byte0, byte1, 0, byte3 ^ 0x20]);
-            put(&mut back, slot, [byte0, byte1, 0, byte3]);
+    for (slot, settings) in individual_settings(shelf) {
+        let bit = bit(slot.kind);
+        if bit != 0 && often.comes(rng) {
+            let stored = SELECT | u32::from_be_bytes(settings) & !SWAP_AND_SPEED;
+            put(&mut there, slot, (stored ^ bit).to_be_bytes());
+            put(&mut back, slot, stored.to_be_bytes());
         }
     }
     [there, back]

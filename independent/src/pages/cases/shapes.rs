@@ -82,6 +82,15 @@ pub fn at_limits(rng: &mut Rng, kind: Kind) -> Shelf {
     shelf_of(rng, vec![full])
 }
 
+/// So many elements of this type, all with this code.
+pub fn of_code(rng: &mut Rng, kind: Kind, code: Code, count: usize) -> Shelf {
+    let mut group = group(rng, kind, 0);
+    for _ in 0..count {
+        group.add(element_of_code(rng, kind, code));
+    }
+    shelf_of(rng, vec![group])
+}
+
 fn types_without_elements(rng: &mut Rng) -> Vec<Group> {
     let types = rng.range(1, MOST_TYPES);
     groups(rng, types, 0)
@@ -122,27 +131,13 @@ fn type_of_chosen_codes(rng: &mut Rng) -> Group {
     } else {
         rng.pick(&Kind::ALL)
     };
-    let possible = possible_codes(kind);
-    let chosen: Vec<Code> = (0..2).map(|_| rng.pick(possible)).collect();
+    let chosen: Vec<Code> = (0..2).map(|_| rng.pick(kind.codes())).collect();
     let mut made = group(rng, kind, 0);
     for _ in 0..rng.range(1, 5) {
         let code = rng.pick(&chosen);
         made.add(element_of_code(rng, kind, code));
     }
     made
-}
-
-fn possible_codes(kind: Kind) -> &'static [Code] {
-    match kind {
-        Kind::Cooling => &[Code::Normal, Code::Critical],
-        Kind::Temperature => &[
-            Code::Normal,
-            Code::Critical,
-            Code::NonCritical,
-            Code::NoReading,
-        ],
-        Kind::Voltage | Kind::Current => &[Code::Normal, Code::Critical, Code::NonCritical],
-    }
 }
 
 fn element_of_code(rng: &mut Rng, kind: Kind, code: Code) -> Element {

@@ -146,7 +146,7 @@ fn perhaps_asked(rng: &mut Rng, kind: Kind, chance: Chance) -> [u8; 4] {
     }
 }
 
-fn page_of(shelf: &Shelf, elements: &[[u8; 4]]) -> Vec<u8> {
+pub fn page_of(shelf: &Shelf, elements: &[[u8; 4]]) -> Vec<u8> {
     let mut page = THRESHOLD_OUT.blank(shelf);
     for (slot, element) in zip(slots(shelf), elements) {
         put(&mut page, slot, *element);

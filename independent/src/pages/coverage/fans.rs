@@ -77,10 +77,6 @@ pub struct Fans {
     asked: Tally,
     wanted: Tally,
     returned: Tally,
-    /// The shelves whose status pages were written last, each as a control page left the one before.
-    trail: Vec<Shelf>,
-    /// The shelf as a control page left the last of those.
-    reached: Option<Shelf>,
 }
 
 impl Fans {
@@ -100,8 +96,8 @@ impl Fans {
         enough
     }
 
-    /// Of a shelf whose status page was written.
-    pub fn count_written(&mut self, shelf: &Shelf) {
+    /// Of a shelf whose status page was written, and the trail up to it.
+    pub fn count_written(&mut self, shelf: &Shelf, trail: &[Shelf]) {
         for (settings, reading) in fans(shelf) {
             let name = match (settings.on, reading) {
                 (true, 0) => "ON, reading 0",
@@ -111,11 +107,7 @@ impl Fans {
             };
             self.written.count(name, settings.speed);
         }
-        if self.reached.take().as_ref() != Some(shelf) {
-            self.trail.clear();
-        }
-        self.trail.push(shelf.clone());
-        self.count_returned();
+        self.count_returned(trail);
     }
 
     pub fn count_read(&mut self, entries: &[Entry]) {
@@ -139,11 +131,6 @@ impl Fans {
         }
     }
 
-    /// Of the shelves before and after a control page.
-    pub fn count_controlled(&mut self, before: &Shelf, after: &Shelf) {
-        self.reached = (self.trail.last() == Some(before)).then(|| after.clone());
-    }
-
     /// Of a shelf, and a list of settings that a page was built for.
     pub fn count_wanted(&mut self, shelf: &Shelf, wanted: &[u8]) {
         for (element, wanted) in zip(shelf.elements(), wanted.chunks_exact(4)) {
@@ -155,8 +142,8 @@ impl Fans {
         }
     }
 
-    fn count_returned(&mut self) {
-        if let [.., first, between, last] = &self.trail[..] {
+    fn count_returned(&mut self, trail: &[Shelf]) {
+        if let [.., first, between, last] = trail {
             let others = zip(fans(between), fans(last));
             for ((first, _), ((between, _), (last, _))) in zip(fans(first), others) {
                 let turned = FanSettings {

@@ -1,6 +1,8 @@
 // Bytes: the bits of one, the two halves of one, big-endian numbers, and lent bytes at any place.
 //
 // A caller shows that the bytes it reads or writes stand in the slice, so that nothing is tested here.
+#![tactic(auto)]
+
 ghost use Rattle.std.specs.Prelude.{◌≡◌, ◌+◌, ◌*◌, ◌<◌, ◌≤◌, get_or, length};
 ghost use Rattle.bits.specs.Choice.{first_of};
 ghost use Rattle.bits.specs.Bits.{within, nibble, join, printable};

@@ -1,4 +1,6 @@
 // One element's wish: the control elements that bring its stored settings to wanted ones.
+#![tactic(auto)]
+
 ghost use Rattle.std.specs.Prelude.{◌≡◌};
 ghost use Rattle.element_control.specs.Control.{control_of};
 ghost use Rattle.build_element.specs.Wishes.{in_reach, alike, request_bytes, request_for, turning, own, brings, one};

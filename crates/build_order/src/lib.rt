@@ -1,4 +1,6 @@
 // The order in which pages are preferred: a smaller count first, and among those that count as much the first in the dictionary.
+#![tactic(auto)]
+
 ghost use Rattle.std.specs.Prelude.{◌≡◌};
 ghost use Rattle.bits.specs.Numbers.{big};
 ghost use Rattle.build_order.specs.Order.{sooner};

@@ -1,6 +1,8 @@
 // The overall element for the elements of one type: the one that leaves the fewest SELECTs to send, the first in the dictionary among equals.
 //
 // Only what the wanted records ask for is tried, and the overall element unselected.
+#![tactic(auto)]
+
 ghost use Rattle.std.specs.Prelude.{◌≡◌, suc, ◌-◌, ◌<◌, ◌≤◌};
 ghost use Rattle.shelf.specs.SettingsList.{HasSettings};
 ghost use Rattle.build_overall.specs.Choice.{HasWishes, cost_of, ranked, tried_one, best_after, best_among, repeated, overall_of};

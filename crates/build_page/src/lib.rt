@@ -1,4 +1,6 @@
 // The control page for a wish: the fewest SELECTs, overall ones counted, and the first in the dictionary of those.
+#![tactic(auto)]
+
 pub mod built;
 pub mod testing;
 pub mod writing;

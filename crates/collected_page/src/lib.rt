@@ -1,4 +1,6 @@
 // The end of a collected page: all bytes that were put are one page, of the code meant, which is answered and acts on the shelf.
+#![tactic(auto)]
+
 pub mod testing;
 
 ghost use Rattle.std.specs.Prelude.{◌≡◌};

@@ -1,5 +1,7 @@
 // A collector: the bytes of a page that comes in chunks, in a block that the caller lends. It has the count of the bytes that were put, and
 // room for the largest page; bytes beyond that are counted and not kept. Any block of its length is one.
+#![tactic(auto)]
+
 ghost use Rattle.std.specs.Prelude.{◌≡◌, ◌≤◌, length};
 ghost use Rattle.bits.specs.Rows.{bytes_at};
 ghost use Rattle.collector.specs.Collector.{most_kept, room_place, HasRoom, at_most, count_of, counted, kept, collected, emptied};

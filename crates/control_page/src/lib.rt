@@ -1,4 +1,6 @@
 // The Enclosure Control page (02h): which pages a shelf accepts, and what an accepted one makes of it.
+#![tactic(auto)]
+
 pub mod acting;
 pub mod testing;
 

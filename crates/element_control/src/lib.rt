@@ -1,6 +1,8 @@
 // A control element, by value: what it asks, which of two acts, and what it makes of settings.
 //
 // Every function takes any value and asks nothing of its caller.
+#![tactic(auto)]
+
 ghost use Rattle.std.specs.Prelude.{◌≡◌};
 ghost use Rattle.element.specs.Requests.{reserved_in, speed_after, acted};
 ghost use Rattle.element_control.specs.Control.{selected, control_of, offending};

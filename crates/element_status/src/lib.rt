@@ -2,6 +2,8 @@
 // DISABLED, SWAP) and twelve are laid out by the type.
 //
 // Every function takes any value and asks nothing of its caller.
+#![tactic(auto)]
+
 pub mod fields;
 pub mod types;
 

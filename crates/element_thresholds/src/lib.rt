@@ -1,6 +1,8 @@
 // The four thresholds of one element, by value: which its type has, their order, and what a page makes of them.
 //
 // Every function takes any value and asks nothing of its caller.
+#![tactic(auto)]
+
 ghost use Rattle.std.specs.Prelude.{◌≡◌};
 ghost use Rattle.element.specs.Thresholds.{byte_taken, taken, at_least, low_ordered};
 ghost use Rattle.element.specs.Types.{had, ordered};

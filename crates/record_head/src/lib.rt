@@ -1,4 +1,6 @@
 // The first four bytes of a record: two of the record's own, and the number of its entries.
+#![tactic(auto)]
+
 ghost use Rattle.std.specs.Prelude.{◌≡◌, ◌≤◌, length};
 ghost use Rattle.bits.specs.Places.{put_four};
 ghost use Rattle.record_head.specs.Head.{record_head, count_tested};

@@ -2,6 +2,8 @@
 // writes.
 //
 // A refusal is a value with a number; every promise speaks of the value, and `number_of` says which number it is.
+#![tactic(auto)]
+
 ghost use Rattle.std.specs.Prelude.{◌≡◌};
 ghost use Rattle.refusals.specs.declared.Answer.TheVariants.{Accepted};
 ghost use Rattle.refusals.specs.Numbers.{number_of, answer_number, page_number, offset_after, written_number, bytes_written};

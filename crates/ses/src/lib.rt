@@ -1,6 +1,8 @@
 // The public calls. Each takes whatever bytes it is given, and answers with a value or with one refusal.
 //
 // The module `c` has the same calls for C; include/ses.h declares them.
+#![tactic(auto)]
+
 pub mod c;
 
 ghost use Rattle.promises.specs.Promises.{Check, WriteConfiguration, WriteStatus, WriteThresholds, WriteDescriptors, ReadConfiguration, ReadStatus, ReadThresholds, ReadDescriptors, RewriteConfiguration, RewriteStatus, RewriteThresholds, RewriteDescriptors, ApplyControl, ApplyThresholds, EmptyCollector, PutChunk, EndPage, BuildControl, FindName, SetName, SetOverallName};

@@ -2,6 +2,8 @@
 //
 // Reading and writing ask that the bytes are there, and nothing else of what they hold. The crate `shelf_formed` says whether a
 // block is a shelf, and so that they are.
+#![tactic(auto)]
+
 pub mod elements;
 pub mod limits;
 pub mod settings_list;

@@ -1,4 +1,6 @@
 // Whether a block is a well_formed_lem shelf, or the front of one a configuration.
+#![tactic(auto)]
+
 ghost use Rattle.std.specs.Prelude.{◌≡◌, true, ◌≤◌, length};
 ghost use Rattle.bits.specs.Choice.{all_below};
 ghost use Rattle.shelf.specs.Limits.{most_text, element_place, HasTypes, HasText, HasElement};

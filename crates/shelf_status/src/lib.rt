@@ -1,4 +1,6 @@
 // What a shelf shows: each element by itself, each type by its worst element, and the page by all.
+#![tactic(auto)]
+
 ghost use Rattle.std.specs.Prelude.{◌≡◌, true, ◌≤◌, length};
 ghost use Rattle.element.specs.Status.{status_bytes};
 ghost use Rattle.shelf.specs.Limits.{element_place, HasElement};

@@ -2,6 +2,8 @@
 // cannot: a built-in block, or one that is read from a file. It writes no file.
 //
 // Every answer goes to standard output, a refusal too. What keeps a file from being read goes to standard error.
+#![tactic(auto)]
+
 mod answer;
 mod applying;
 mod building;

@@ -1,2 +1,4 @@
 // The status page (02h) read, under a configuration.
+#![tactic(auto)]
+
 pub mod reading;

@@ -1,4 +1,6 @@
 // A status record: what a reader hands back. Two page bits, the number of entries, and an entry of 16 bytes for each slot of the page.
+#![tactic(auto)]
+
 ghost use Rattle.std.specs.Prelude.{◌≡◌, ◌≤◌, length};
 ghost use Rattle.status_record.specs.Entries.{entry_place, HasEntry, entry_put, entry_at, head_put, bits_at, bits_formed};
 

@@ -1,4 +1,6 @@
 // The status page written again from the record that a reader handed back.
+#![tactic(auto)]
+
 ghost use Rattle.std.specs.Prelude.{◌≡◌, ◌≤◌, length};
 ghost use Rattle.element.specs.StatusLayout.{fit};
 ghost use Rattle.refusals.specs.Outcomes.{placed, WritesPage};

@@ -1,4 +1,6 @@
 // The Threshold Out page (05h): which pages a shelf accepts, and what an accepted one makes of it.
+#![tactic(auto)]
+
 pub mod acting;
 pub mod testing;
 

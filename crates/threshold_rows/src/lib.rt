@@ -1,6 +1,8 @@
 // Rows of four threshold bytes in a block: the slots of a page, or the entries of a threshold record.
 //
 // The rows of a page and of a record are tested alike, so the tests take a block and the place where its rows start.
+#![tactic(auto)]
+
 ghost use Rattle.std.specs.Prelude.{◌≡◌, ◌+◌, ◌≤◌, length};
 ghost use Rattle.bits.specs.Choice.{pick};
 ghost use Rattle.refusals.specs.declared.Refusal.TheVariants.{NoSuchThreshold, ThresholdOrder};

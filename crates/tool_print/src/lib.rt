@@ -1,4 +1,6 @@
 // Words and numbers on standard output, and refusals in words, for every program of this repository.
+#![tactic(auto)]
+
 pub mod refusal;
 
 use libc::STDOUT_FILENO;

@@ -1,5 +1,7 @@
 // What a well_formed_lem shelf holds, in words: its head, its types, and the elements of each; the names that a page for it tells, and what
 // a page has at a place. Of any other block nothing is said.
+#![tactic(auto)]
+
 pub mod named;
 pub mod place;
 mod words;

@@ -12,7 +12,7 @@ use page::slots::Slot;
 use shelf::{elements, settings_list};
 
 // An overall element that is tried, and the SELECTs that its type needs with it.
-#[derive(Drop)]
+#[derive(Clone, Copy)]
 pub struct Candidate {
     pub overall: [u8; 4],
     pub selects: u32,

@@ -4,7 +4,7 @@ ghost use Rattle.build_page.specs.Outcome.{passed_on, built_number, bytes_built,
 
 use refusals::{Answer, Refusal};
 
-#[derive(Drop)]
+#[derive(Clone, Copy)]
 pub enum Built {
     Page { bytes: u32, selects: u32 },
     Refused(Refusal),

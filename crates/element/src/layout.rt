@@ -5,7 +5,7 @@ ghost use Rattle.element.specs.Types.{layout_of};
 use crate::types::Kind;
 
 // The flags in bytes 1 to 3, and the speed code in byte 3.
-#[derive(Drop)]
+#[derive(Clone, Copy)]
 pub struct Layout {
     pub flags1: u8,
     pub flags2: u8,

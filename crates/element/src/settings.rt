@@ -7,7 +7,7 @@ use crate::layout::Layout;
 use crate::types::Kind;
 
 // PRDFAIL, DISABLED and SWAP, which all types have; the type's own flags, where bytes 1 to 3 of its control element have them; SPEED.
-#[derive(Drop)]
+#[derive(Clone, Copy)]
 pub struct Settings {
     pub prdfail: bool,
     pub disabled: bool,

@@ -2,7 +2,7 @@
 ghost use Rattle.std.specs.Prelude.{◌≡◌};
 ghost use Rattle.element.specs.Types.{rules_of, code_of, kind_of, served, reading_allowed, nominal_allowed};
 
-#[derive(Drop)]
+#[derive(Clone, Copy)]
 pub enum Kind {
     Cooling,
     Temperature,
@@ -11,7 +11,7 @@ pub enum Kind {
 }
 
 // How the low two thresholds stand to each other: in no order, low warning at least low critical, or low critical at least low warning.
-#[derive(Drop)]
+#[derive(Clone, Copy)]
 pub enum LowOrder {
     Any,
     WarningAbove,

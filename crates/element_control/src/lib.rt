@@ -14,7 +14,7 @@ use element::types::Kind;
 const SELECT: u32 = 0x80000000;
 
 // SELECT, and the settings that are requested, RST SWAP in the place of SWAP.
-#[derive(Drop)]
+#[derive(Clone, Copy)]
 pub struct Control {
     pub select: bool,
     pub request: Settings,

@@ -10,7 +10,7 @@ use refusals::Refusal;
 use shelf::{limits, types};
 use shelf_formed::{Opened, Sizes};
 
-#[derive(Drop)]
+#[derive(Clone, Copy)]
 pub enum Found {
     Element(u32),
     Nothing,

@@ -7,7 +7,7 @@ use element::types::Kind;
 use shelf::types::Run;
 
 // The type of the element, and where on the page the two slots stand.
-#[derive(Drop)]
+#[derive(Clone, Copy)]
 pub struct Places {
     pub kind: Kind,
     pub overallplace: u32,

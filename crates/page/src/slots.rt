@@ -9,7 +9,7 @@ use element::types::Kind;
 use shelf::types;
 
 // What a slot is for: the elements from `first` up to `end`, for an individual element that one alone.
-#[derive(Drop)]
+#[derive(Clone, Copy)]
 pub struct Slot {
     pub kind: Kind,
     pub overall: bool,
@@ -19,7 +19,7 @@ pub struct Slot {
 
 // A type with its slots, as a walk has it at one of them: whether that is the overall one, how many types there are up to
 // this one, and where its slots end.
-#[derive(Drop)]
+#[derive(Clone, Copy)]
 pub struct SlotRun {
     pub kind: Kind,
     pub overall: bool,

@@ -9,7 +9,7 @@ ghost use Rattle.refusals.specs.declared.Answer.TheVariants.{Accepted};
 ghost use Rattle.refusals.specs.Numbers.{number_of, answer_number, page_number, offset_after, written_number, bytes_written};
 ghost use Rattle.refusals.specs.Outcomes.{of_page, not_allowed_at, offence_tested, with_slots, answer_of, fitted, written_answer, passed_on};
 
-#[derive(Drop)]
+#[derive(Clone, Copy)]
 pub enum Refusal {
     ShelfNotWellFormed,
     PageTooShort,
@@ -26,7 +26,7 @@ pub enum Refusal {
     NoSuchElement,
 }
 
-#[derive(Drop)]
+#[derive(Clone, Copy)]
 pub enum Answer {
     Accepted,
     Refused(Refusal),
@@ -34,26 +34,26 @@ pub enum Answer {
 
 // Why a page is refused, and where: the offset of the first offending byte if it is not allowed. Else 0, where the page code stands,
 // which is never told so.
-#[derive(Drop)]
+#[derive(Clone, Copy)]
 pub struct PageRefusal {
     pub refusal: Refusal,
     pub offset: u32,
 }
 
-#[derive(Drop)]
+#[derive(Clone, Copy)]
 pub enum PageAnswer {
     Accepted,
     Refused(PageRefusal),
 }
 
 // What tests come to that count the slots of a page on the way.
-#[derive(Drop)]
+#[derive(Clone, Copy)]
 pub enum Tested {
     Slots(u16),
     Refused(Refusal),
 }
 
-#[derive(Drop)]
+#[derive(Clone, Copy)]
 pub enum Written {
     Bytes(u32),
     Refused(Refusal),

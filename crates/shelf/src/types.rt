@@ -62,7 +62,7 @@ pub fn all_elements(shelf: &[u8]) -> u16
 
 // A type with its elements: those from `before` up to `end`. Its number is wide: eight bytes the compiler would pack into one register and
 // take apart again at each turn of a loop.
-#[derive(Drop)]
+#[derive(Clone, Copy)]
 pub struct Run {
     pub kind: Kind,
     pub number: u32,

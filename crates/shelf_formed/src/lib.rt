@@ -11,13 +11,13 @@ use element::types::Kind;
 use shelf::{elements, limits, types};
 
 // How many types and elements a well_formed_lem shelf has.
-#[derive(Drop)]
+#[derive(Clone, Copy)]
 pub struct Sizes {
     pub types: u16,
     pub elements: u16,
 }
 
-#[derive(Drop)]
+#[derive(Clone, Copy)]
 pub enum Opened {
     Shelf(Sizes),
     NotWellFormed,

@@ -11,7 +11,7 @@ use element::types::Kind;
 use shelf::{elements, types};
 
 // The two bits of a status page that tell of all its elements.
-#[derive(Drop)]
+#[derive(Clone, Copy)]
 pub struct PageBits {
     pub noncritical: bool,
     pub critical: bool,

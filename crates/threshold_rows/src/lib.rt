@@ -19,14 +19,14 @@ pub const ON_PAGE: u16 = 8;
 pub const IN_RECORD: u16 = 4;
 
 // What is seen of rows: whether each has only thresholds of its type, and in order.
-#[derive(Drop)]
+#[derive(Clone, Copy)]
 pub struct Seen {
     pub had: bool,
     pub ordered: bool,
 }
 
 // What one pass over rows comes to: where a refused byte of an overall row stands, or what is seen of all.
-#[derive(Drop)]
+#[derive(Clone, Copy)]
 pub enum Scanned {
     Rows(Seen),
     Offending(u32),

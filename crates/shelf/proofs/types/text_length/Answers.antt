@@ -1,0 +1,6 @@
+use mathlib.Core.Path.{◌∙◌}
+use borrow.Author.Rules.{rules}
+use Rattle.shelf.proofs.types.text_length.Goals as goal
+
+pub returns : goal.returns
+returns c = c.byte_at.ensures ∙ rw c.type_place.ensures

@@ -1,4 +1,3 @@
-use borrow.Author.Rules.{rules}
 use Rattle.element_status.proofs.first_clear.Goals as goal
 
 pub returns : goal.returns

@@ -1,6 +1,5 @@
 use mathlib.Core.Path.{◌∙◌}
 use Rattle.element.specs.Status.{overall_offending}
-use borrow.Author.Rules.{rules}
 use Rattle.element_status.proofs.overall_offending.Goals as goal
 
 pub returns : goal.returns

@@ -1,6 +1,5 @@
 use Rattle.element_status.specs.Words.{words_within}
 use mathlib.Core.Bool.{◌&&◌}
-use borrow.Author.Rules.{rules}
 use Rattle.element_status.proofs.fields.are_within.Goals as goal
 
 pub returns : goal.returns

@@ -3,7 +3,6 @@ use Rattle.element.specs.StatusLayout.{cut_at}
 use native.Mathlib.Omega.{arith}
 use Prim.Native.Nat.{◌/◌, ◌%◌, ◌^◌}
 use lib.Bits.{and_le_r}
-use borrow.Author.Rules.{rules}
 use Rattle.element_status.proofs.fields.cut.Goals as goal
 
 pub overflow_cast-result-3 : goal.overflow_cast-result-3

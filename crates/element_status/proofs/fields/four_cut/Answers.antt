@@ -2,7 +2,6 @@ use mathlib.Core.Path.{◌∙◌}
 use mathlib.Core.List.{[], ◌∷◌}
 use lib.ListN.{get_or}
 use Rattle.element.specs.StatusLayout.{cut_at}
-use borrow.Author.Rules.{rules}
 use Rattle.element_status.proofs.fields.four_cut.Goals as goal
 
 pub returns : goal.returns

@@ -1,7 +1,6 @@
 use mathlib.Core.Path.{◌∙◌}
 use lib.ListN.{get_or}
 use Rattle.element.specs.StatusLayout.{put_onto}
-use borrow.Author.Rules.{rules}
 use Rattle.element_status.proofs.fields.four_put.Goals as goal
 
 pub returns : goal.returns

@@ -3,7 +3,6 @@ use Rattle.bits.specs.Places.{four_at}
 use Rattle.bits.specs.Numbers.{bytes}
 use Rattle.element_status.specs.Words.{four_put}
 use Rattle.element_status.proofs.ByteLaws.{number_made}
-use borrow.Author.Rules.{rules}
 use Rattle.element_status.proofs.fields.number_as.Goals as goal
 
 pub returns : goal.returns

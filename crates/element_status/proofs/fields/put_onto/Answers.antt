@@ -2,7 +2,6 @@ use native.Mathlib.Omega.{arith}
 use mathlib.Core.Path.{refl}
 use lib.Bits.{and_le_r}
 use Rattle.element.specs.StatusLayout.{put_onto}
-use borrow.Author.Rules.{rules}
 use Rattle.element_status.proofs.fields.put_onto.Goals as goal
 
 pub overflow_cast-result : goal.overflow_cast-result

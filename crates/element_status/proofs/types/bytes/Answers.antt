@@ -1,5 +1,4 @@
 use Rattle.element_status.proofs.ByteLaws.{bytes_made}
-use borrow.Author.Rules.{rules}
 use Rattle.element_status.proofs.types.bytes.Goals as goal
 
 pub returns : goal.returns

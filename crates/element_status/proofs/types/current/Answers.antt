@@ -1,5 +1,4 @@
 use Rattle.element_status.proofs.ByteLaws.{current_by}
-use borrow.Author.Rules.{rules}
 use Rattle.element_status.proofs.types.current.Goals as goal
 
 pub returns : goal.returns

@@ -1,6 +1,5 @@
 use native.Mathlib.Omega.{arith}
 use Rattle.element.proofs.SettingsBothWays.{four}
-use borrow.Author.Rules.{rules}
 use Rattle.element_status.proofs.types.fan_bytes.Goals as goal
 
 pub returns : goal.returns

@@ -1,5 +1,4 @@
 use Rattle.element_status.proofs.ByteLaws.{first_is}
-use borrow.Author.Rules.{rules}
 use Rattle.element_status.proofs.types.first_byte.Goals as goal
 
 pub returns : goal.returns

@@ -1,5 +1,4 @@
 use mathlib.Core.Bool.{◌&&◌}
-use borrow.Author.Rules.{rules}
 use Rattle.element_status.proofs.types.formed_as.Goals as goal
 
 pub returns : goal.returns

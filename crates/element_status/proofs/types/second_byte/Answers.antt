@@ -1,6 +1,5 @@
 use Rattle.element.specs.Verdict.{detected}
 use Rattle.element_status.proofs.ByteLaws.{second_lit}
-use borrow.Author.Rules.{rules}
 use Rattle.element_status.proofs.types.second_byte.Goals as goal
 
 pub returns : goal.returns

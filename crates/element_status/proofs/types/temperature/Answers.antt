@@ -1,6 +1,5 @@
 use Rattle.element.specs.Types.{temperature_status, temperature_fields}
 use Rattle.element_status.proofs.ByteLaws.{status_by}
-use borrow.Author.Rules.{rules}
 use Rattle.element_status.proofs.types.temperature.Goals as goal
 
 pub returns : goal.returns

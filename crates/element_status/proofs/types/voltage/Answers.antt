@@ -1,6 +1,5 @@
 use Rattle.element.specs.Types.{voltage_status, voltage_fields}
 use Rattle.element_status.proofs.ByteLaws.{status_by}
-use borrow.Author.Rules.{rules}
 use Rattle.element_status.proofs.types.voltage.Goals as goal
 
 pub returns : goal.returns

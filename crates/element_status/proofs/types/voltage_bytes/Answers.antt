@@ -2,7 +2,6 @@ use native.Mathlib.Omega.{arith}
 use Rattle.element.specs.Types.{fail_shown}
 use Rattle.element.proofs.SettingsBothWays.{four}
 use Rattle.element_status.proofs.ByteLaws.{limits_made}
-use borrow.Author.Rules.{rules}
 use Rattle.element_status.proofs.types.voltage_bytes.Goals as goal
 
 pub returns : goal.returns

@@ -1,6 +1,5 @@
 use mathlib.Core.Path.{◌∙◌}
 use Rattle.shelf.specs.Elements.{settings_put}
-use borrow.Author.Rules.{rules}
 use Rattle.shelf.proofs.elements.put_settings.Goals as goal
 
 pub returns : goal.returns

@@ -1,6 +1,5 @@
 use mathlib.Core.Path.{◌∙◌}
 use Rattle.shelf.specs.Elements.{thresholds_put}
-use borrow.Author.Rules.{rules}
 use Rattle.shelf.proofs.elements.put_thresholds.Goals as goal
 
 pub returns : goal.returns

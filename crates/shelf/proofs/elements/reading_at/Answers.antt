@@ -1,6 +1,5 @@
 use mathlib.Core.Path.{◌∙◌}
 use Rattle.shelf.specs.Elements.{reading_at}
-use borrow.Author.Rules.{rules}
 use Rattle.shelf.proofs.elements.reading_at.Goals as goal
 
 pub returns : goal.returns

@@ -1,6 +1,5 @@
 use mathlib.Core.Path.{◌∙◌}
 use Rattle.shelf.specs.Elements.{thresholds_at}
-use borrow.Author.Rules.{rules}
 use Rattle.shelf.proofs.elements.thresholds_at.Goals as goal
 
 pub returns : goal.returns

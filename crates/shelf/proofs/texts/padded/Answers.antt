@@ -3,7 +3,6 @@ use Rattle.bits.specs.Rows.{bytes_at}
 use Rattle.bits.proofs.Rows.{length-bytes_at}
 use Rattle.bits.proofs.RowsPut.{put_zeros}
 use Rattle.shelf.specs.Limits.{most_text}
-use borrow.Author.Rules.{rules}
 use Rattle.shelf.proofs.texts.padded.Goals as goal
 
 pub returns : goal.returns

@@ -1,5 +1,4 @@
 use mathlib.Core.Path.{◌∙◌}
-use borrow.Author.Rules.{rules}
 use Rattle.shelf.proofs.types.code_of.Goals as goal
 
 pub returns : goal.returns

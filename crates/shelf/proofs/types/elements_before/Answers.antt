@@ -1,8 +1,7 @@
 use mathlib.Core.Path.{◌≡◌, sym, ap, ◌∙◌}
-use Prim.Native.Nat.{ℕ, ◌+◌, ◌*◌, ◌≤◌, ◌-◌}
+use Prim.Native.Nat.{ℕ, ◌+◌}
 use native.Mathlib.Omega.{arith}
-use borrow.Author.Rules.{rules}
-use Rattle.shelf.specs.Types.{type_count, before}
+use Rattle.shelf.specs.Types.{type_count}
 use Rattle.shelf.proofs.ElementsBefore.{before_none, before_next}
 use Rattle.shelf.proofs.types.elements_before.Goals as goal
 

@@ -1,9 +1,6 @@
-use mathlib.Core.Path.{◌≡◌, sym, ap, ◌∙◌}
-use Prim.Native.Nat.{ℕ, ◌+◌, ◌*◌, ◌≤◌, ◌-◌}
-use native.Mathlib.Omega.{arith}
-use borrow.Author.Rules.{rules}
-use Rattle.shelf.specs.Types.{type_count, before}
-use Rattle.shelf.proofs.ElementsBefore.{before_none, before_next}
+use mathlib.Core.Path.{◌≡◌}
+use Prim.Native.Nat.{◌*◌, ◌≤◌, ◌-◌}
+use Rattle.shelf.specs.Types.{before}
 use Rattle.shelf.proofs.types.elements_before.Given as goal
 
 abbrev pub invariant-loop-t : goal.invariant-loop-t

@@ -1,4 +1,3 @@
-use borrow.Author.Rules.{rules}
 use Rattle.shelf.proofs.TypeRuns.{run_first}
 use Rattle.shelf.proofs.types.first_run.Goals as goal
 

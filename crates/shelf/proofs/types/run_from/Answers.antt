@@ -1,15 +1,13 @@
 use mathlib.Core.Path.{◌≡◌, sym, ◌∙◌}
-use mathlib.Core.Bool.{true}
-use Prim.Native.Nat.{◌*◌, ◌≤◌, ◌-◌}
 use native.Mathlib.Omega.{arith}
 use borrow.Author.Rules.{rules}
-use Rattle.bits.specs.Choice.{all_below}
 use Rattle.shelf.specs.Limits.{most_types}
-use Rattle.shelf.specs.Types.{ended_by}
-use Rattle.shelf.specs.Types as counts
 use Rattle.shelf.proofs.ElementsBefore.{ended, before_small}
 use Rattle.shelf.proofs.TypeRuns.{type_here, type_none, ended_next, run_is}
 use Rattle.shelf.proofs.types.run_from.Goals as goal
+
+pub loop-number-init : goal.loop-number-init
+loop-number-init c = let s = c.args in let b = before_small s.shelf.now (search rules) s.t in (c.requires.t_le_most_types, omega (arith, b, c.requires.start_value), c.requires.start_value, c.requires.t_value)
 
 pub overflow_cast-end : goal.overflow_cast-end
 overflow_cast-end c = omega arith

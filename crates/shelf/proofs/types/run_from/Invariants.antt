@@ -1,14 +1,10 @@
-use mathlib.Core.Path.{◌≡◌, sym, ◌∙◌}
+use mathlib.Core.Path.{◌≡◌}
 use mathlib.Core.Bool.{true}
 use Prim.Native.Nat.{◌*◌, ◌≤◌, ◌-◌}
-use native.Mathlib.Omega.{arith}
-use borrow.Author.Rules.{rules}
 use Rattle.bits.specs.Choice.{all_below}
 use Rattle.shelf.specs.Limits.{most_types}
 use Rattle.shelf.specs.Types.{ended_by}
 use Rattle.shelf.specs.Types as counts
-use Rattle.shelf.proofs.ElementsBefore.{ended, before_small}
-use Rattle.shelf.proofs.TypeRuns.{type_here, type_none, ended_next, run_is}
 use Rattle.shelf.proofs.types.run_from.Given as goal
 
 abbrev pub invariant-loop-number : goal.invariant-loop-number

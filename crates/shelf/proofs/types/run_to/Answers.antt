@@ -1,5 +1,4 @@
 use native.Mathlib.Omega.{arith}
-use borrow.Author.Rules.{rules}
 use Rattle.shelf.proofs.TypeRuns.{run_stays, run_behind}
 use Rattle.shelf.proofs.types.run_to.Goals as goal
 
@@ -12,4 +11,4 @@ overflow_cast-run c = let b = run_behind c.args.shelf.now c.args.j c.requires.ru
 
 pub run_from-requires : goal.run_from-requires
 run_from-requires c = let b = run_behind c.args.shelf.now c.args.j c.requires.run_value in
-    (c.requires.has_element, (b.0, (b.1, b.2)))
+    record { has_element = c.requires.has_element; t_le_most_types = b.0; start_value = b.1; t_value = b.2 }

@@ -1,4 +1,3 @@
-use borrow.Author.Rules.{rules}
 use Rattle.shelf.proofs.TypeRuns.{run_made}
 use Rattle.shelf.proofs.types.run_with.Goals as goal
 

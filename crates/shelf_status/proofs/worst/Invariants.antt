@@ -1,0 +1,13 @@
+use mathlib.Core.Path.{◌≡◌}
+use Prim.Native.Nat.{◌-◌, ◌≤◌}
+use native.Mathlib.Omega.{arith}
+use borrow.Author.Rules.{rules}
+use Rattle.shelf_status.specs.ShelfStatus.{worst_of, has}
+use Rattle.shelf_status.proofs.WorstCode.{none_seen, one_more, all_seen}
+use Rattle.shelf_status.proofs.worst.Given as goal
+
+abbrev pub invariant-loop-j : goal.invariant-loop-j
+invariant-loop-j l = (l.first ≤ l.j) × (l.j - l.first ≤ l.end - l.first) × (l.code ≡ worst_of (has l.shelf l.kind l.first (l.j - l.first)))
+
+abbrev pub decreases-loop-j : goal.decreases-loop-j
+decreases-loop-j l = l.end - l.j

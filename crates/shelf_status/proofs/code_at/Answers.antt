@@ -6,7 +6,6 @@ use Rattle.element.specs.Settings.{settings_of}
 use Rattle.element.proofs.TypeStatus.{code_shown}
 use Rattle.shelf.specs.Elements.{settings_at, thresholds_at, reading_at, nominal_at}
 use Rattle.shelf_status.specs.ShelfStatus.{verdict_at, code_at, shown_at}
-use borrow.Author.Rules.{rules}
 use Rattle.shelf_status.proofs.code_at.Goals as goal
 
 pub returns : goal.returns

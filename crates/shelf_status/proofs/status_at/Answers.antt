@@ -2,7 +2,6 @@ use mathlib.Core.Path.{◌∙◌}
 use Rattle.element.specs.Settings.{settings_of}
 use Rattle.element.specs.Status.{status_bytes, shown_by}
 use Rattle.shelf_status.specs.ShelfStatus.{shown_at}
-use borrow.Author.Rules.{rules}
 use Rattle.shelf_status.proofs.status_at.Goals as goal
 
 pub returns : goal.returns

@@ -1,9 +1,6 @@
 use mathlib.Core.Path.{◌≡◌}
 use Prim.Native.Nat.{◌-◌, ◌≤◌}
-use native.Mathlib.Omega.{arith}
-use borrow.Author.Rules.{rules}
 use Rattle.shelf_status.specs.ShelfStatus.{worst_of, has}
-use Rattle.shelf_status.proofs.WorstCode.{none_seen, one_more, all_seen}
 use Rattle.shelf_status.proofs.worst.Given as goal
 
 abbrev pub invariant-loop-j : goal.invariant-loop-j

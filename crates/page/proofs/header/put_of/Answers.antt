@@ -1,5 +1,4 @@
 use Rattle.page.proofs.HeaderTests.{head_is}
-use borrow.Author.Rules.{rules}
 use Rattle.page.proofs.header.put_of.Goals as goal
 
 pub returns : goal.returns

@@ -1,5 +1,4 @@
 use Rattle.page.proofs.HeaderTests.{frame_refused, length-refused, has_header, generation_last}
-use borrow.Author.Rules.{rules}
 use Rattle.page.proofs.header.test.Goals as goal
 
 pub returns-in_default : goal.returns-in_default

@@ -2,7 +2,6 @@ use mathlib.Core.Path.{sym, ◌∙◌}
 use borrow.Author.Tests.{eq-eqb, ne_eqb}
 use Rattle.bits.proofs.Logic.{pick_yes, pick_no}
 use Rattle.page.specs.Header.{code_tested}
-use borrow.Author.Rules.{rules}
 use Rattle.page.proofs.header.test_code.Goals as goal
 
 pub returns-then-byte_at-code : goal.returns-then-byte_at-code

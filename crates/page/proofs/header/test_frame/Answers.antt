@@ -1,5 +1,4 @@
 use Rattle.page.proofs.HeaderTests.{too_short, has_frame, other_code, said_last}
-use borrow.Author.Rules.{rules}
 use Rattle.page.proofs.header.test_frame.Goals as goal
 
 pub returns-in_default : goal.returns-in_default

@@ -1,6 +1,5 @@
 use mathlib.Core.Path.{sym, ◌∙◌}
 use Rattle.page.proofs.HeaderTests.{generation_differs, generation_passed}
-use borrow.Author.Rules.{rules}
 use Rattle.page.proofs.header.test_generation.Goals as goal
 
 pub returns-then-big32_at : goal.returns-then-big32_at

@@ -2,7 +2,6 @@ use mathlib.Core.Path.{sym, ap, ◌∙◌}
 use Prim.Native.Nat.{◌+◌}
 use borrow.Author.Tests.{eq-eqb, ne_eqb}
 use Rattle.bits.proofs.Logic.{pick_yes, pick_no}
-use borrow.Author.Rules.{rules}
 use Rattle.page.proofs.header.test_said.Goals as goal
 
 pub returns-then-given-big16_at : goal.returns-then-given-big16_at

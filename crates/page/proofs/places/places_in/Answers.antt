@@ -1,6 +1,5 @@
 use mathlib.Core.Path.{refl}
 use Rattle.page.specs.Places.{places_in}
-use borrow.Author.Rules.{rules}
 use Rattle.page.proofs.places.places_in.Goals as goal
 
 pub returns : goal.returns

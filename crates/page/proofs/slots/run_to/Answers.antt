@@ -1,5 +1,4 @@
 use native.Mathlib.Omega.{arith}
-use borrow.Author.Rules.{rules}
 use Rattle.page.proofs.SlotBounds.{slots_bound}
 use Rattle.page.proofs.SlotWalk.{slot_stays, slot_steps, next_there, next_run}
 use Rattle.page.proofs.slots.run_to.Goals as goal

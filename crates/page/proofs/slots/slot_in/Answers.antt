@@ -1,5 +1,4 @@
 use native.Mathlib.Omega.{arith}
-use borrow.Author.Rules.{rules}
 use Rattle.page.proofs.SlotWalk.{types_fit, element_fits, overall_in_lem, element_in}
 use Rattle.page.proofs.slots.slot_in.Goals as goal
 

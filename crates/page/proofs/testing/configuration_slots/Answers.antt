@@ -1,6 +1,5 @@
 use native.Mathlib.Omega.{arith}
 use Rattle.page.proofs.SlotsCounted.{no_configuration, configuration_sum, configuration_slots}
-use borrow.Author.Rules.{rules}
 use Rattle.page.proofs.testing.configuration_slots.Goals as goal
 
 pub returns-in_default : goal.returns-in_default

@@ -2,7 +2,6 @@ use Rattle.refusals.proofs.Stages.{count_stopped, count_gone_on}
 use Rattle.page.specs.Header.{shelf_tested, page_tested, headed}
 use Rattle.page.specs.Slots.{slots_of}
 use Rattle.page.proofs.SlotsCounted.{shelf_counted}
-use borrow.Author.Rules.{rules}
 use Rattle.page.proofs.testing.page_slots.Goals as goal
 
 pub returns-in_default : goal.returns-in_default

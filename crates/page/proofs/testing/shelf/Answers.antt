@@ -1,7 +1,6 @@
 use mathlib.Core.Path.{sym, ◌∙◌}
 use Rattle.bits.proofs.Logic.{pick_yes, pick_no}
 use Rattle.shelf_formed.proofs.Opening.{formed_sizes, not_formed}
-use borrow.Author.Rules.{rules}
 use Rattle.page.proofs.testing.shelf.Goals as goal
 
 pub returns-in_default : goal.returns-in_default

@@ -1,6 +1,5 @@
 use native.Mathlib.Omega.{arith}
 use Rattle.page.proofs.SlotsCounted.{no_shelf, shelf_sum, shelf_slots}
-use borrow.Author.Rules.{rules}
 use Rattle.page.proofs.testing.shelf_slots.Goals as goal
 
 pub returns-in_default : goal.returns-in_default

@@ -1,10 +1,7 @@
 use mathlib.Core.Path.{◌≡◌, refl, ap, ◌∙◌}
-use Prim.Native.Nat.{◌-◌, ◌≤◌}
 use native.Mathlib.Omega.{arith}
-use borrow.Author.Rules.{rules}
 use Rattle.shelf_formed.proofs.ElementPut.{room}
 use Rattle.shelf_formed.proofs.ElementPut.{shelf_there}
-use Rattle.shelf.specs.Types.{carried}
 use Rattle.shelf.proofs.TypeRuns.{run_kind, run_on}
 use Rattle.shelf_status.specs.ShelfStatus.{page_bits}
 use Rattle.shelf_status.proofs.WorstCode.{bits_seen, seen_next}

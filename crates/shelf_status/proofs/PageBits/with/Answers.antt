@@ -1,3 +1,4 @@
+use native.Mathlib.Omega.{arith}
 use mathlib.Core.Path.{sym}
 use mathlib.Core.Bool.{or-true, or-false}
 use borrow.Author.Tests.{ne_eqb}
@@ -14,5 +15,5 @@ returns-in-3 c = let b = c.args.self in
 pub returns-in_default : goal.returns-in_default
 returns-in_default c = let b = c.args.self in
     let n = c.args.code in
-    rw (ne_eqb n 2 c.in_default.rest.0.1, ne_eqb n 3 c.in_default.rest.1)
+    rw (ne_eqb n 2 (λ e. omega (arith, e)), ne_eqb n 3 (λ e. omega (arith, e)))
     (λ i. record { noncritical = sym (or-false b.noncritical) i; critical = sym (or-false b.critical) i })

@@ -1,0 +1,13 @@
+use mathlib.Core.Path.{◌≡◌}
+use Prim.Native.Nat.{◌-◌, ◌≤◌}
+use native.Mathlib.Omega.{arith}
+use borrow.Author.Rules.{rules}
+use Rattle.build_overall.specs.Choice.{best_among}
+use Rattle.build_overall.proofs.Loops.{none_chosen, first_best, next_best, all_best}
+use Rattle.build_overall.proofs.overall.Given as goal
+
+abbrev pub invariant-loop-j : goal.invariant-loop-j
+invariant-loop-j l = (l.at.first ≤ l.j) × (l.j - l.at.first ≤ l.at.end - l.at.first) × (l.best ≡ best_among l.shelf l.wanted l.at (l.j - l.at.first))
+
+abbrev pub decreases-loop-j : goal.decreases-loop-j
+decreases-loop-j l = l.at.end - l.j

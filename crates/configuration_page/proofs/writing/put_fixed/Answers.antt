@@ -1,0 +1,11 @@
+use Rattle.configuration_page.proofs.PartsPut.{fixed_placed}
+use borrow.Author.Rules.{rules}
+use Rattle.configuration_page.proofs.writing.put_fixed.Goals as goal
+
+pub returns : goal.returns
+returns c = fixed_placed c.args.front.now c.args.n c.args.out.now c.pre.1
+    c.byte_at.ensures
+    c.put_four.ensures
+    c.four_at.ensures
+    c.put_four-2.ensures
+    c.put_four-3.ensures c.copy.ensures

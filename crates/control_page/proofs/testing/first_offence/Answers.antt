@@ -1,0 +1,68 @@
+use mathlib.Core.Path.{◌≡◌, refl, sym, ap, ◌∙◌}
+use mathlib.Core.Bool.{true, not}
+use mathlib.Core.List.{[], ◌∷◌}
+use Prim.Native.Nat.{◌-◌, ◌≤◌}
+use native.Mathlib.Omega.{arith}
+use mir.Val.{Fits}
+use mir.Syntax.{w8}
+use borrow.Author.Rules.{rules}
+use borrow.Author.Tests.{eq-eqb, ne_eqb, le-ltb}
+use Rattle.bits.specs.Choice.{all_below, refused_in}
+use Rattle.bits.specs.Bits.{only}
+use Rattle.bits.proofs.Logic.{fails, below_next}
+use Rattle.bits.proofs.Halves.{mask}
+use Rattle.page.specs.Slots.{slot_carried}
+use Rattle.page.proofs.SlotWalk.{walk_on}
+use Rattle.control_page.proofs.FirstOffence.{slot_offending}
+use Rattle.control_page.proofs.Tests.{slot_offends, first_byte_refused, slot_refused, none_refused}
+use Rattle.control_page.proofs.testing.first_offence.Goals as goal
+
+pub returns-then-byte_at-ne0 : goal.returns-then-byte_at-ne0
+returns-then-byte_at-ne0 c = let s = c.args in let h : Fits w8 c.byte_at.result = search rules in first_byte_refused s.shelf.now s.page.now s.n (ap (only (3 ∷ 2 ∷ 1 ∷ 0 ∷ [])) (sym c.byte_at.ensures) ∙ sym (mask 0xf0 (3 ∷ 2 ∷ 1 ∷ 0 ∷ []) refl c.byte_at.result h) ∙ ne_eqb _ 0 c.if-byte_at-ne0.true)
+
+pub loop-i-init : goal.loop-i-init
+loop-i-init c = (omega arith, c.first_run-run.ensures, refl)
+
+pub run_to-here-requires : goal.run_to-here-requires
+run_to-here-requires c = record { has_front = c.requires.has_front; i_bound = omega (arith, c.requires.n_bound, c.loop-i-test.true); run_value = c.loop-i.invariant.1 }
+
+pub overflow_cast-result : goal.overflow_cast-result
+overflow_cast-result c = omega arith
+
+pub overflow_add-result : goal.overflow_add-result
+overflow_add-result c = omega (arith, c.slot_place.ensures)
+
+pub returns-then-k-lt4 : goal.returns-then-k-lt4
+returns-then-k-lt4 c = let s = c.args in
+    let h : Fits w8 c.byte_at.result = search rules in
+    let l = c.loop-i in
+    slot_refused s.shelf.now s.page.now s.n
+    (ap (only (3 ∷ 2 ∷ 1 ∷ 0 ∷ [])) (sym c.byte_at.ensures) ∙ sym (mask 0xf0 (3 ∷ 2 ∷ 1 ∷ 0 ∷ []) refl c.byte_at.result h) ∙ eq-eqb _ 0 c.if-byte_at-ne0.false)
+    l.i c.loop-i-test.true l.invariant.2
+    (slot_offends s.shelf.now s.page.now l.i c.run_to-here.ensures c.slot_offending-k.ensures)
+    c.if-k-lt4.true c.slot_place.ensures
+
+pub overflow_add-i : goal.overflow_add-i
+overflow_add-i c = omega arith
+
+pub loop-i-smaller : goal.loop-i-smaller
+loop-i-smaller c = omega arith
+
+pub loop-i-preserved : goal.loop-i-preserved
+loop-i-preserved c = let s = c.args in
+    let l = c.loop-i in
+    let r = c.run_to-here.ensures in
+    let k = slot_offends s.shelf.now s.page.now l.i r c.slot_offending-k.ensures in (
+      omega arith,
+      walk_on s.shelf.now l.i r,
+      below_next (fails (refused_in (slot_offending s.shelf.now s.page.now))) l.i l.invariant.2 (ap not (le-ltb (slot_offending s.shelf.now s.page.now l.i) 4 (rw k at c.if-k-lt4.false))),
+    )
+
+pub returns : goal.returns
+returns c = let s = c.args in
+    let h : Fits w8 c.byte_at.result = search rules in
+    let l = c.loop-i in
+    let e : l.i ≡ s.n = omega arith in
+    none_refused s.shelf.now s.page.now s.n
+    (ap (only (3 ∷ 2 ∷ 1 ∷ 0 ∷ [])) (sym c.byte_at.ensures) ∙ sym (mask 0xf0 (3 ∷ 2 ∷ 1 ∷ 0 ∷ []) refl c.byte_at.result h) ∙ eq-eqb _ 0 c.if-byte_at-ne0.false)
+    (rw e at l.invariant.2) c.slot_place-2.ensures

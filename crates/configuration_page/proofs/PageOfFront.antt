@@ -2,10 +2,10 @@
 -- Assumes nothing.
 use mathlib.Core.Path.{◌≡◌, sym, ap, ap₂, ◌∙◌}
 use mathlib.Core.Bool.{true}
-use mathlib.Core.List.{List, ◌∷◌, ◌++◌}
+use mathlib.Core.List.{List, ◌++◌}
 use Prim.Native.Nat.{ℕ, ◌+◌, ◌-◌, ◌<◌}
 use native.Mathlib.Omega.{arith}
-use Rattle.bits.specs.Numbers.{bytes, Bytes}
+use Rattle.bits.specs.Numbers.{Bytes}
 use Rattle.bits.specs.Rows.{joined, bytes_at}
 use Rattle.bits.proofs.Rows.{joined_same, bytes_same}
 use Rattle.bits.proofs.RowStarts.{start_same}

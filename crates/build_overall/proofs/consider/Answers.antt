@@ -1,6 +1,5 @@
 use Prim.Native.Nat.{◌-◌}
 use Rattle.build_overall.proofs.Loops.{best_ranked, record_again, record_new}
-use borrow.Author.Rules.{rules}
 use Rattle.build_overall.proofs.consider.Goals as goal
 
 pub try_record-requires : goal.try_record-requires

@@ -1,9 +1,8 @@
-use mathlib.Core.Path.{◌≡◌}
-use Prim.Native.Nat.{◌+◌, ◌-◌, ◌≤◌}
+use Prim.Native.Nat.{◌-◌}
 use native.Mathlib.Omega.{arith}
 use lib.ListN.{get_or}
 use borrow.Author.Rules.{rules}
-use Rattle.build_overall.proofs.Loops.{bool_small, counted, counted_none, counted_next, counted_all}
+use Rattle.build_overall.proofs.Loops.{bool_small, counted_none, counted_next, counted_all}
 use mir.Val.{Fits}
 use mir.Syntax.{w8, w16}
 use mathlib.Core.Bool.{not}

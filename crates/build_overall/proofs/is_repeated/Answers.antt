@@ -1,11 +1,6 @@
-use mathlib.Core.Path.{◌≡◌}
-use Prim.Native.Nat.{◌-◌, ◌≤◌}
+use Prim.Native.Nat.{◌-◌}
 use native.Mathlib.Omega.{arith}
-use borrow.Author.Rules.{rules}
-use mathlib.Core.Bool.{true}
-use Rattle.bits.specs.Choice.{all_below}
-use Rattle.bits.proofs.Logic.{fails}
-use Rattle.build_overall.proofs.Loops.{like, none_like, found_like, not_like, all_unlike}
+use Rattle.build_overall.proofs.Loops.{none_like, found_like, not_like, all_unlike}
 use Rattle.build_overall.proofs.is_repeated.Goals as goal
 
 pub loop-i-init : goal.loop-i-init

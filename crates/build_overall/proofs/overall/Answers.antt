@@ -1,8 +1,5 @@
-use mathlib.Core.Path.{◌≡◌}
-use Prim.Native.Nat.{◌-◌, ◌≤◌}
+use Prim.Native.Nat.{◌-◌}
 use native.Mathlib.Omega.{arith}
-use borrow.Author.Rules.{rules}
-use Rattle.build_overall.specs.Choice.{best_among}
 use Rattle.build_overall.proofs.Loops.{none_chosen, first_best, next_best, all_best}
 use Rattle.build_overall.proofs.overall.Goals as goal
 

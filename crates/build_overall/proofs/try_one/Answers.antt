@@ -1,5 +1,4 @@
 use Rattle.build_overall.proofs.Loops.{one_better, none_better}
-use borrow.Author.Rules.{rules}
 use Rattle.build_overall.proofs.try_one.Goals as goal
 
 pub returns-then-sooner : goal.returns-then-sooner

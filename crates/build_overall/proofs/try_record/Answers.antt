@@ -1,8 +1,5 @@
-use mathlib.Core.Path.{◌≡◌}
-use Prim.Native.Nat.{◌-◌, ◌≤◌}
 use native.Mathlib.Omega.{arith}
-use borrow.Author.Rules.{rules}
-use Rattle.build_overall.proofs.Loops.{upto, upto_next, upto_all}
+use Rattle.build_overall.proofs.Loops.{upto_next, upto_all}
 use Rattle.build_overall.proofs.try_record.Goals as goal
 
 pub loop-v-init : goal.loop-v-init

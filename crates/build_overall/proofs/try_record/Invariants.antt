@@ -1,8 +1,6 @@
 use mathlib.Core.Path.{◌≡◌}
 use Prim.Native.Nat.{◌-◌, ◌≤◌}
-use native.Mathlib.Omega.{arith}
-use borrow.Author.Rules.{rules}
-use Rattle.build_overall.proofs.Loops.{upto, upto_next, upto_all}
+use Rattle.build_overall.proofs.Loops.{upto}
 use Rattle.build_overall.proofs.try_record.Given as goal
 
 abbrev pub invariant-loop-v : goal.invariant-loop-v

@@ -1,6 +1,5 @@
 use mathlib.Core.Path.{sym, ◌∙◌}
 use Rattle.control_page.proofs.PageActs.{accepted_room, refused_after, accepted_after}
-use borrow.Author.Rules.{rules}
 use Rattle.control_page.proofs.apply.Goals as goal
 
 pub returns-in_default : goal.returns-in_default

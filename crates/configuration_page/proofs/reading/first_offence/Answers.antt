@@ -3,7 +3,6 @@ use native.Mathlib.Omega.{arith}
 use Rattle.configuration_page.specs.Page.{header_place}
 use Rattle.configuration_page.specs.Read.{offence_below}
 use Rattle.configuration_page.proofs.FirstOffence.{found_in, none_there}
-use borrow.Author.Rules.{rules}
 use Rattle.configuration_page.proofs.reading.first_offence.Goals as goal
 
 pub returns-then-fixed-ne-FIRST_HEADER : goal.returns-then-fixed-ne-FIRST_HEADER

@@ -2,10 +2,9 @@ use mathlib.Core.Path.{sym, ap, ◌∙◌}
 use mathlib.Core.Bool.{◌&&◌}
 use Prim.Native.Nat.{ℕ}
 use lib.Dec.{leb}
-use borrow.Author.Tests.{eq-eqb, ne_eqb, not-true, not-false}
+use borrow.Author.Tests.{eq-eqb, ne_eqb}
 use Rattle.shelf.specs.Limits.{most_types}
 use Rattle.configuration_page.proofs.FirstOffence.{fixed_1, fixed_8, fixed_9, fixed_10, fixed_11, fixed_none}
-use borrow.Author.Rules.{rules}
 use Rattle.configuration_page.proofs.reading.fixed_offence.Goals as goal
 
 pub returns-then-byte_at-ne0 : goal.returns-then-byte_at-ne0

@@ -1,7 +1,6 @@
 use native.Mathlib.Omega.{arith}
 use Rattle.configuration_page.proofs.AcceptedPage.{headers_in}
 use Rattle.configuration_page.proofs.PartsPut.{record_placed}
-use borrow.Author.Rules.{rules}
 use Rattle.configuration_page.proofs.reading.hand_over.Goals as goal
 
 pub byte_at-requires : goal.byte_at-requires
@@ -14,10 +13,10 @@ pub copy-requires : goal.copy-requires
 copy-requires c = let h = headers_in c.args.page.now c.requires.page_value in record { n_in_bounds = omega arith; n_in_bounds_2 = omega arith }
 
 pub put_types-requires : goal.put_types-requires
-put_types-requires c = record { page_value = c.pre.0; has_types = omega (arith, c.pre.1) }
+put_types-requires c = record { page_value = c.requires.page_value; has_types = omega (arith, c.requires.configuration_len) }
 
 pub returns : goal.returns
-returns c = record_placed c.args.page.now c.args.configuration.now (omega (arith, c.pre.1))
+returns c = record_placed c.args.page.now c.args.configuration.now (omega (arith, c.requires.configuration_len))
     c.byte_at.ensures
     c.four_at.ensures
     c.put_four.ensures

@@ -1,6 +1,5 @@
 use native.Mathlib.Omega.{arith}
 use Rattle.configuration_page.proofs.TextStarts.{told_head, past_head}
-use borrow.Author.Rules.{rules}
 use Rattle.configuration_page.proofs.reading.head_told.Goals as goal
 
 pub returns-then-t-types_on : goal.returns-then-t-types_on

@@ -1,5 +1,4 @@
 use mathlib.Core.Path.{◌∙◌}
-use borrow.Author.Rules.{rules}
 use Rattle.configuration_page.proofs.reading.header_on.Goals as goal
 
 pub returns : goal.returns

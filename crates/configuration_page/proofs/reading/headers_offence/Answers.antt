@@ -1,17 +1,11 @@
 use mathlib.Core.Path.{◌≡◌, sym, ap, ◌∙◌}
-use mathlib.Core.Bool.{true}
 use mathlib.Core.List.{List}
-use Prim.Native.Nat.{ℕ, ◌+◌, ◌*◌, ◌≤◌, ◌-◌, ◌<◌}
+use Prim.Native.Nat.{ℕ, ◌+◌, ◌*◌, ◌<◌}
 use native.Mathlib.Omega.{arith}
 use lib.ListN.{get_or}
-use Rattle.shelf.specs.Limits.{most_elements}
-use Rattle.bits.specs.Choice.{all_below}
-use Rattle.bits.proofs.Logic.{fails}
 use Rattle.configuration_page.specs.Page.{header_place}
-use Rattle.configuration_page.specs.Read.{offends, total_before}
 use Rattle.configuration_page.proofs.Loops.{total_none}
 use Rattle.configuration_page.proofs.FirstOffence.{none_yet, found_none, header_refused, header_passed}
-use borrow.Author.Rules.{rules}
 use Rattle.configuration_page.proofs.reading.headers_offence.Goals as goal
 
 pub loop-t-init : goal.loop-t-init
@@ -21,7 +15,7 @@ pub header_on-e-requires : goal.header_on-e-requires
 header_on-e-requires c = let l = c.loop-t.t in let m = c.loop-t-test.true in let r = c.requires.n_in_bounds in omega arith
 
 pub overflow_add-elements : goal.overflow_add-elements
-overflow_add-elements c = let e = ap (λ (e : List ℕ). get_or e 1 0) c.header_on-e.ensures in omega (arith, (search rules) (48 + 4 * c.loop-t.t + 1))
+overflow_add-elements c = let e = ap (λ (e : List ℕ). get_or e 1 0) c.header_on-e.ensures in omega (arith, c.type_inv.page (48 + 4 * c.loop-t.t + 1))
 
 pub overflow_add-result : goal.overflow_add-result
 overflow_add-result c = omega (arith, c.header_place.ensures, c.if-k-lt4.true)

@@ -1,21 +1,20 @@
 use mathlib.Core.Path.{◌≡◌, sym, ap, ◌∙◌}
 use mathlib.Core.List.{List}
-use Prim.Native.Nat.{ℕ, ◌≤◌, ◌-◌, ◌+◌, ◌*◌}
+use Prim.Native.Nat.{ℕ, ◌+◌, ◌*◌}
 use native.Mathlib.Omega.{arith}
 use lib.ListN.{get_or}
-use Rattle.configuration_page.specs.Read.{text_place_on, needed_length}
+use Rattle.configuration_page.specs.Read.{needed_length}
 use Rattle.bits.proofs.RowStarts.{start_first, start_next}
-use borrow.Author.Rules.{rules}
 use Rattle.configuration_page.proofs.reading.needed_length.Goals as goal
 
 pub loop-t-init : goal.loop-t-init
 loop-t-init c = (omega arith, omega arith, c.header_place-bytes.ensures ∙ rw c.types_on-n.ensures (sym (start_first _ _)))
 
 pub overflow_add-bytes : goal.overflow_add-bytes
-overflow_add-bytes c = let e = ap (λ (e : List ℕ). get_or e 3 0) c.header_on-e.ensures in omega (arith, (search rules) (48 + 4 * c.loop-t.t + 3))
+overflow_add-bytes c = let e = ap (λ (e : List ℕ). get_or e 3 0) c.header_on-e.ensures in omega (arith, c.type_inv.page (48 + 4 * c.loop-t.t + 3))
 
 pub loop-t-preserved : goal.loop-t-preserved
-loop-t-preserved c = let l = c.loop-t in let e = ap (λ (e : List ℕ). get_or e 3 0) c.header_on-e.ensures in (omega arith, omega (arith, (search rules) (48 + 4 * l.t + 3)), start_next _ _ l.t l.invariant.2 e)
+loop-t-preserved c = let l = c.loop-t in let e = ap (λ (e : List ℕ). get_or e 3 0) c.header_on-e.ensures in (omega arith, omega (arith, c.type_inv.page (48 + 4 * l.t + 3)), start_next _ _ l.t l.invariant.2 e)
 
 pub returns : goal.returns
 unfolding needed_length

@@ -1,11 +1,6 @@
-use mathlib.Core.Path.{◌≡◌, sym, ap, ◌∙◌}
-use mathlib.Core.List.{List}
-use Prim.Native.Nat.{ℕ, ◌≤◌, ◌-◌, ◌+◌, ◌*◌}
-use native.Mathlib.Omega.{arith}
-use lib.ListN.{get_or}
-use Rattle.configuration_page.specs.Read.{text_place_on, needed_length}
-use Rattle.bits.proofs.RowStarts.{start_first, start_next}
-use borrow.Author.Rules.{rules}
+use mathlib.Core.Path.{◌≡◌}
+use Prim.Native.Nat.{◌≤◌, ◌-◌, ◌+◌, ◌*◌}
+use Rattle.configuration_page.specs.Read.{text_place_on}
 use Rattle.configuration_page.proofs.reading.needed_length.Given as goal
 
 abbrev pub invariant-loop-t : goal.invariant-loop-t

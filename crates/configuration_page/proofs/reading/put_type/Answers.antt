@@ -1,7 +1,6 @@
 use Rattle.configuration_page.proofs.AcceptedPage.{headers_in}
 use Rattle.configuration_page.proofs.TextStarts.{head_length, told_short, told_in, text_done}
 use Rattle.configuration_page.proofs.PartsPut.{type_put}
-use borrow.Author.Rules.{rules}
 use Rattle.configuration_page.proofs.reading.put_type.Goals as goal
 
 pub head_told-head-requires : goal.head_told-head-requires

@@ -1,14 +1,12 @@
 use mathlib.Core.Path.{◌≡◌, refl, sym, ◌∙◌}
-use Prim.Native.Nat.{◌+◌, ◌≤◌, ◌-◌}
+use Prim.Native.Nat.{◌+◌}
 use native.Mathlib.Omega.{arith}
 use Rattle.shelf.specs.Limits.{most_types, type_place}
-use Rattle.configuration_page.specs.Configuration.{told_start, type_told}
+use Rattle.configuration_page.specs.Configuration.{type_told}
 use Rattle.configuration_page.proofs.AcceptedPage.{headers_in}
 use Rattle.configuration_page.proofs.TextStarts.{start_small}
-use Rattle.bits.specs.Rows.{rows_put}
 use Rattle.bits.proofs.RowStarts.{start_first, start_next}
 use Rattle.bits.proofs.RowsPut.{rows_next, rows_length}
-use borrow.Author.Rules.{rules}
 use Rattle.configuration_page.proofs.reading.put_types.Goals as goal
 
 pub types_on-requires : goal.types_on-requires
@@ -29,11 +27,10 @@ overflow_add-start c = let l = c.loop-t in
 
 pub loop-t-preserved : goal.loop-t-preserved
 loop-t-preserved c = let s = c.args in
-    let l = c.loop-t in
-    let p = c.put_type-start.ensures in (
+    let l = c.loop-t in (
       omega (arith, c.loop-t-test.true),
-      start_next _ _ l.t l.invariant.1 p.0,
-      rows_next type_place (type_told s.page.now) s.configuration.now l.t l.invariant.2 refl refl p.1,
+      start_next _ _ l.t l.invariant.1 c.put_type-start.ensures.value,
+      rows_next type_place (type_told s.page.now) s.configuration.now l.t l.invariant.2 refl refl c.put_type-start.ensures.configuration_after,
     )
 
 pub shape_of-configuration : goal.shape_of-configuration

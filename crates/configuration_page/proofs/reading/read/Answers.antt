@@ -3,7 +3,6 @@ use Rattle.configuration_page.specs.Read.{configuration_read}
 use Rattle.refusals.proofs.Left.{read_handed}
 use native.Mathlib.Omega.{arith}
 use mathlib.Core.Path.{sym, ◌∙◌}
-use borrow.Author.Rules.{rules}
 use Rattle.configuration_page.proofs.reading.read.Goals as goal
 
 pub hand_over-requires : goal.hand_over-requires

@@ -1,5 +1,4 @@
 use Rattle.configuration_page.proofs.Refusals.{frame_refused, length-refused, length_known, bytes_last}
-use borrow.Author.Rules.{rules}
 use Rattle.configuration_page.proofs.reading.test.Goals as goal
 
 pub returns-in_default : goal.returns-in_default
@@ -12,9 +11,9 @@ returns-in_default-length c = length-refused c.args.page.now
     c.test_length-length.ensures c.in_default-length.is c.of-in_default-length.ensures
 
 pub test_bytes-requires : goal.test_bytes-requires
-test_bytes-requires c = length_known c.args.page.now
+test_bytes-requires c = let all = length_known c.args.page.now
     c.test_frame-frame.ensures c.in-Accepted.is
-    c.test_length-length.ensures c.in-Accepted-length.is
+    c.test_length-length.ensures c.in-Accepted-length.is in record { page_value = all.0; page_len = all.1 }
 
 pub returns : goal.returns
 returns c = bytes_last c.args.page.now

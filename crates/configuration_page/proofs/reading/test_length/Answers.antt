@@ -2,7 +2,6 @@ use mathlib.Core.Path.{ap, ◌∙◌}
 use native.Mathlib.Omega.{arith}
 use Rattle.page.specs.Header.{length_tested}
 use Rattle.configuration_page.proofs.Refusals.{room_there, no_headers}
-use borrow.Author.Rules.{rules}
 use Rattle.configuration_page.proofs.reading.test_length.Goals as goal
 
 pub returns-in_default : goal.returns-in_default

@@ -1,6 +1,5 @@
 use mathlib.Core.Path.{ap}
 use mathlib.Core.Bool.{not}
-use borrow.Author.Rules.{rules}
 use Rattle.configuration_page.specs.Read.{text_offends}
 use Rattle.configuration_page.proofs.reading.text_offends.Goals as goal
 

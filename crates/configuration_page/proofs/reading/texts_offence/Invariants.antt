@@ -1,13 +1,9 @@
-use mathlib.Core.Path.{◌≡◌, sym, ap, ◌∙◌}
-use mathlib.Core.Bool.{true, not}
+use mathlib.Core.Path.{◌≡◌}
+use mathlib.Core.Bool.{true}
 use Prim.Native.Nat.{◌≤◌, ◌-◌}
-use native.Mathlib.Omega.{arith}
 use Rattle.bits.specs.Choice.{all_below}
-use Rattle.bits.proofs.Logic.{fails, below_next}
-use Rattle.configuration_page.specs.Read.{text_offends, offends}
-use Rattle.configuration_page.proofs.Refusals.{text_at}
-use Rattle.configuration_page.proofs.FirstOffence.{none_yet, found_at, found_none}
-use borrow.Author.Rules.{rules}
+use Rattle.bits.proofs.Logic.{fails}
+use Rattle.configuration_page.specs.Read.{offends}
 use Rattle.configuration_page.proofs.reading.texts_offence.Given as goal
 
 abbrev pub invariant-loop-k : goal.invariant-loop-k

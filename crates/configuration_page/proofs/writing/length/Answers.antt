@@ -1,10 +1,8 @@
 use mathlib.Core.Path.{◌≡◌, sym, ◌∙◌}
-use Prim.Native.Nat.{◌≤◌, ◌-◌, ◌+◌, ◌*◌}
 use native.Mathlib.Omega.{arith}
 use Rattle.shelf_formed.proofs.FormedShelf.{few_types}
-use Rattle.configuration_page.specs.Page.{text_start, configuration_length}
+use Rattle.configuration_page.specs.Page.{configuration_length}
 use Rattle.bits.proofs.RowStarts.{start_first, start_next}
-use borrow.Author.Rules.{rules}
 use Rattle.configuration_page.proofs.writing.length.Goals as goal
 
 pub loop-t-init : goal.loop-t-init

@@ -1,7 +1,6 @@
 use native.Mathlib.Omega.{arith}
 use Rattle.shelf_formed.proofs.FormedShelf.{few_types}
 use Rattle.configuration_page.proofs.PartsPut.{headers_first, page_placed}
-use borrow.Author.Rules.{rules}
 use Rattle.configuration_page.proofs.writing.put.Goals as goal
 
 pub overflow_sub-bytes : goal.overflow_sub-bytes

@@ -1,10 +1,7 @@
-use Rattle.bits.specs.Places.{fours_put}
 use Rattle.bits.proofs.FoursPut.{fours_next, fours_length}
 use Rattle.configuration_page.proofs.Loops.{header_made}
 use mathlib.Core.Path.{◌≡◌, refl}
-use Prim.Native.Nat.{◌≤◌, ◌-◌}
 use native.Mathlib.Omega.{arith}
-use borrow.Author.Rules.{rules}
 use Rattle.configuration_page.specs.Page.{header_place, type_header}
 use Rattle.configuration_page.proofs.writing.put_headers.Goals as goal
 

@@ -3,7 +3,6 @@ use Rattle.configuration_page.specs.Page.{configuration_page}
 use Rattle.refusals.proofs.Left.{write_room, write_short, write_put}
 use Rattle.refusals.specs.declared.Answer.TheVariants.{Accepted}
 use mathlib.Core.Path.{refl, sym, ◌∙◌}
-use borrow.Author.Rules.{rules}
 use Rattle.configuration_page.proofs.writing.write.Goals as goal
 
 pub returns-in_default : goal.returns-in_default
@@ -15,7 +14,7 @@ returns-in_default c = let s = c.args in
 pub put-requires : goal.put-requires
 put-requires c = let s = c.args in
     let f = s.front.now in
-    let l = c.length-bytes.ensures ∙ sym (length-page f) in record { has_types = c.requires; in_bounds = (c.length-bytes.ensures, write_room Accepted (configuration_page f) s.out.now refl refl l c.fit-fit.ensures c.in-Bytes.is) }
+    let l = c.length-bytes.ensures ∙ sym (length-page f) in record { has_front = c.requires; bytes_value = c.length-bytes.ensures; bytes_in_bounds = write_room Accepted (configuration_page f) s.out.now refl refl l c.fit-fit.ensures c.in-Bytes.is }
 
 pub returns : goal.returns
 returns c = let s = c.args in

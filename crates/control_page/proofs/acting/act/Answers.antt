@@ -1,11 +1,11 @@
-use mathlib.Core.Path.{◌≡◌, refl}
-use Prim.Native.Nat.{◌-◌, ◌<◌, ◌≤◌}
+use mathlib.Core.Path.{refl}
+use Prim.Native.Nat.{◌<◌}
 use native.Mathlib.Omega.{arith}
 use Rattle.shelf.proofs.TypeRuns.{run_small}
-use Rattle.shelf.specs.Types.{carried, elements_of}
+use Rattle.shelf.specs.Types.{elements_of}
 use Rattle.shelf_formed.proofs.ElementPut.{length-formed}
 use Rattle.page.proofs.SlotWalk.{places_run, run_there, run_next}
-use Rattle.control_page.proofs.PageActs.{partly, act_next, same_front, act_room, partly_length, all_acted}
+use Rattle.control_page.proofs.PageActs.{act_next, same_front, act_room, partly_length, all_acted}
 use Rattle.control_page.proofs.acting.act.Goals as goal
 
 pub all_elements-n-requires : goal.all_elements-n-requires

@@ -1,11 +1,7 @@
-use mathlib.Core.Path.{◌≡◌, refl}
-use Prim.Native.Nat.{◌-◌, ◌<◌, ◌≤◌}
-use native.Mathlib.Omega.{arith}
-use Rattle.shelf.proofs.TypeRuns.{run_small}
-use Rattle.shelf.specs.Types.{carried, elements_of}
-use Rattle.shelf_formed.proofs.ElementPut.{length-formed}
-use Rattle.page.proofs.SlotWalk.{places_run, run_there, run_next}
-use Rattle.control_page.proofs.PageActs.{partly, act_next, same_front, act_room, partly_length, all_acted}
+use mathlib.Core.Path.{◌≡◌}
+use Prim.Native.Nat.{◌-◌, ◌≤◌}
+use Rattle.shelf.specs.Types.{carried}
+use Rattle.control_page.proofs.PageActs.{partly}
 use Rattle.control_page.proofs.acting.act.Given as goal
 
 abbrev pub invariant-loop-j : goal.invariant-loop-j

@@ -1,5 +1,4 @@
 use Rattle.control_page.proofs.PageActs.{acted_by}
-use borrow.Author.Rules.{rules}
 use Rattle.control_page.proofs.acting.act_by.Goals as goal
 
 pub returns : goal.returns

@@ -1,6 +1,5 @@
 use mathlib.Core.Path.{sym, ◌∙◌}
 use Rattle.control_page.proofs.PageActs.{by_own, by_overall, by_none}
-use borrow.Author.Rules.{rules}
 use Rattle.control_page.proofs.acting.act_on.Goals as goal
 
 pub act_by-requires : goal.act_by-requires

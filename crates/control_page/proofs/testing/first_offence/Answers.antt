@@ -1,17 +1,15 @@
 use mathlib.Core.Path.{◌≡◌, refl, sym, ap, ◌∙◌}
-use mathlib.Core.Bool.{true, not}
+use mathlib.Core.Bool.{not}
 use mathlib.Core.List.{[], ◌∷◌}
-use Prim.Native.Nat.{◌-◌, ◌≤◌}
 use native.Mathlib.Omega.{arith}
 use mir.Val.{Fits}
 use mir.Syntax.{w8}
 use borrow.Author.Rules.{rules}
 use borrow.Author.Tests.{eq-eqb, ne_eqb, le-ltb}
-use Rattle.bits.specs.Choice.{all_below, refused_in}
+use Rattle.bits.specs.Choice.{refused_in}
 use Rattle.bits.specs.Bits.{only}
 use Rattle.bits.proofs.Logic.{fails, below_next}
 use Rattle.bits.proofs.Halves.{mask}
-use Rattle.page.specs.Slots.{slot_carried}
 use Rattle.page.proofs.SlotWalk.{walk_on}
 use Rattle.control_page.proofs.FirstOffence.{slot_offending}
 use Rattle.control_page.proofs.Tests.{slot_offends, first_byte_refused, slot_refused, none_refused}

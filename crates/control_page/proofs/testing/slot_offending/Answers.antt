@@ -1,5 +1,4 @@
 use mathlib.Core.Path.{◌∙◌}
-use borrow.Author.Rules.{rules}
 use Rattle.control_page.proofs.testing.slot_offending.Goals as goal
 
 pub returns : goal.returns

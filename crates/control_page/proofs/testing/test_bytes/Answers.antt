@@ -1,5 +1,4 @@
 use Rattle.control_page.proofs.Tests.{bytes_tested_lem}
-use borrow.Author.Rules.{rules}
 use Rattle.control_page.proofs.testing.test_bytes.Goals as goal
 
 pub returns : goal.returns

@@ -1,7 +1,6 @@
 use lib.ListN.{get_or}
 use borrow.Author.Tests.{eq-eqb, ne_eqb}
 use Rattle.threshold_rows.specs.Rows.{first_set}
-use borrow.Author.Rules.{rules}
 use Rattle.threshold_rows.proofs.first_set.Goals as goal
 
 pub returns-then-e-ne0 : goal.returns-then-e-ne0

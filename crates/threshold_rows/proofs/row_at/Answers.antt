@@ -1,6 +1,5 @@
 use mathlib.Core.Path.{ap, ◌∙◌}
 use Rattle.bits.specs.Places.{four_at}
-use borrow.Author.Rules.{rules}
 use Rattle.threshold_rows.proofs.row_at.Goals as goal
 
 pub returns : goal.returns

@@ -1,6 +1,5 @@
 use mathlib.Core.Path.{sym, ◌∙◌}
 use Rattle.bits.proofs.Logic.{pick_yes}
-use borrow.Author.Rules.{rules}
 use Rattle.threshold_rows.proofs.row_offending.Goals as goal
 
 pub returns-then-overall : goal.returns-then-overall

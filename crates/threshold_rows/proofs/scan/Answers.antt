@@ -1,12 +1,9 @@
 use mathlib.Core.Path.{◌≡◌, refl, ap}
-use mathlib.Core.Bool.{true, not}
-use Prim.Native.Nat.{◌-◌, ◌≤◌}
+use mathlib.Core.Bool.{not}
 use native.Mathlib.Omega.{arith}
-use borrow.Author.Rules.{rules}
 use borrow.Author.Tests.{le-ltb}
-use Rattle.bits.specs.Choice.{all_below, refused_in}
+use Rattle.bits.specs.Choice.{refused_in}
 use Rattle.bits.proofs.Logic.{fails, below_next}
-use Rattle.page.specs.Slots.{slot_carried}
 use Rattle.page.proofs.SlotWalk.{walk_on}
 use Rattle.threshold_rows.specs.Rows.{row_offending, row_had, row_ordered}
 use Rattle.threshold_rows.proofs.Loops.{row_offends, row_had_lem, row_ordered_lem, and_next}

@@ -3,7 +3,6 @@ use native.Mathlib.Omega.{arith}
 use lib.ListN.{get_or}
 use borrow.Author.Tests.{eq-eqb, ne_eqb}
 use Rattle.bits.proofs.Logic.{pick_yes, pick_no}
-use borrow.Author.Rules.{rules}
 use Rattle.threshold_rows.proofs.test_byte.Goals as goal
 
 pub returns-then-byte_at-ne0 : goal.returns-then-byte_at-ne0

@@ -1,5 +1,4 @@
 use Rattle.threshold_rows.proofs.RowTests.{slots_refused, slots_last}
-use borrow.Author.Rules.{rules}
 use Rattle.threshold_rows.proofs.test_page.Goals as goal
 
 pub returns-in_default : goal.returns-in_default

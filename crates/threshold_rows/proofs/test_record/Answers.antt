@@ -1,6 +1,5 @@
 use Rattle.threshold_rows.specs.Rows.{in_record}
 use Rattle.threshold_rows.proofs.RowTests.{record_refused, record_last}
-use borrow.Author.Rules.{rules}
 use Rattle.threshold_rows.proofs.test_record.Goals as goal
 
 pub returns-in_default : goal.returns-in_default

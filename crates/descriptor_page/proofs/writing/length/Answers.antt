@@ -1,12 +1,8 @@
 use mathlib.Core.Path.{◌≡◌, sym}
-use Prim.Native.Nat.{◌≤◌, ◌-◌}
 use native.Mathlib.Omega.{arith}
 use Rattle.bits.proofs.RowStarts.{start_first, start_next}
-use Rattle.names.specs.Name.{name_in}
-use Rattle.descriptor_page.specs.Page.{start_of}
 use Rattle.names.proofs.NameBack.{name_bound}
 use Rattle.descriptor_page.proofs.DescriptorRows.{width_is, name_there, names_short}
-use borrow.Author.Rules.{rules}
 use Rattle.descriptor_page.proofs.writing.length.Goals as goal
 
 pub loop-i-init : goal.loop-i-init

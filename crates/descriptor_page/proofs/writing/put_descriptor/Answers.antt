@@ -4,7 +4,6 @@ use lib.ListN.{length}
 use Rattle.bits.proofs.FourPut.{length_put}
 use Rattle.names.proofs.NameBack.{name_bound, length_name}
 use Rattle.descriptor_page.proofs.DescriptorRows.{descriptor_room, descriptor_put}
-use borrow.Author.Rules.{rules}
 use Rattle.descriptor_page.proofs.writing.put_descriptor.Goals as goal
 
 pub put_four-requires : goal.put_four-requires
@@ -21,5 +20,8 @@ overflow_add-result c = let s = c.args in
 
 pub returns : goal.returns
 returns c = let f = c.args.names.now in
-    let n = c.length_at-bytes.ensures in record { value = omega (arith, n, length_name f c.args.at); out_after = descriptor_put f c.args.at c.args.out.now c.args.place c.requires.at_in_bounds n
-          c.put_four.ensures c.copy.ensures }
+    let n = c.length_at-bytes.ensures in record {
+      value = omega (arith, n, length_name f c.args.at);
+      out_after = descriptor_put f c.args.at c.args.out.now c.args.place c.requires.at_in_bounds n
+          c.put_four.ensures c.copy.ensures;
+    }

@@ -1,14 +1,11 @@
 use mathlib.Core.Path.{◌≡◌, refl, sym, ap}
-use Prim.Native.Nat.{◌≤◌, ◌-◌}
 use native.Mathlib.Omega.{arith}
 use lib.ListN.{length}
-use Rattle.bits.specs.Rows.{rows_put}
 use Rattle.bits.proofs.RowStarts.{start_first, start_next}
 use Rattle.bits.proofs.RowsPut.{rows_next, rows_length}
 use Rattle.names.specs.Name.{name_in}
 use Rattle.descriptor_page.specs.Page.{descriptor, start_of}
 use Rattle.descriptor_page.proofs.DescriptorRows.{name_short, name_is, name_there, put_width, row_there, names_short}
-use borrow.Author.Rules.{rules}
 use Rattle.descriptor_page.proofs.writing.put_descriptors.Goals as goal
 
 pub loop-i-init : goal.loop-i-init
@@ -41,11 +38,10 @@ loop-i-preserved c = let s = c.args in
     let first = s.first in
     let row = name_in f first in
     let l = c.loop-i in
-    let k = c.name_at.ensures in
-    let p = c.put_descriptor-place.ensures in (
+    let k = c.name_at.ensures in (
       omega arith,
-      start_next _ _ l.i l.invariant.1 (put_width f first l.i k p.0),
-      rows_next (start_of row) (λ j. descriptor (row j)) s.out.now l.i l.invariant.2 l.invariant.1 (ap descriptor (name_is f first l.i k)) p.1,
+      start_next _ _ l.i l.invariant.1 (put_width f first l.i k c.put_descriptor-place.ensures.value),
+      rows_next (start_of row) (λ j. descriptor (row j)) s.out.now l.i l.invariant.2 l.invariant.1 (ap descriptor (name_is f first l.i k)) c.put_descriptor-place.ensures.out_after,
     )
 
 pub shape_of-out : goal.shape_of-out

@@ -1,14 +1,8 @@
-use mathlib.Core.Path.{◌≡◌, refl, sym, ap}
+use mathlib.Core.Path.{◌≡◌}
 use Prim.Native.Nat.{◌≤◌, ◌-◌}
-use native.Mathlib.Omega.{arith}
-use lib.ListN.{length}
 use Rattle.bits.specs.Rows.{rows_put}
-use Rattle.bits.proofs.RowStarts.{start_first, start_next}
-use Rattle.bits.proofs.RowsPut.{rows_next, rows_length}
 use Rattle.names.specs.Name.{name_in}
 use Rattle.descriptor_page.specs.Page.{descriptor, start_of}
-use Rattle.descriptor_page.proofs.DescriptorRows.{name_short, name_is, name_there, put_width, row_there, names_short}
-use borrow.Author.Rules.{rules}
 use Rattle.descriptor_page.proofs.writing.put_descriptors.Given as goal
 
 abbrev pub invariant-loop-i : goal.invariant-loop-i

@@ -4,7 +4,6 @@ use Rattle.refusals.proofs.Left.{write_room, write_short, write_put}
 use Rattle.names.specs.Name.{name_in}
 use Rattle.descriptor_page.specs.Page.{descriptor_page}
 use Rattle.descriptor_page.proofs.PagePlaced.{length-page}
-use borrow.Author.Rules.{rules}
 use Rattle.descriptor_page.proofs.writing.write.Goals as goal
 
 pub returns-in_default : goal.returns-in_default

@@ -1,6 +1,5 @@
 use native.Mathlib.Omega.{arith}
 use Rattle.descriptor_page.proofs.PagePlaced.{no_shelf, shelf_sum, shelf_names, shelf_written}
-use borrow.Author.Rules.{rules}
 use Rattle.descriptor_page.proofs.writing.write_shelf.Goals as goal
 
 pub returns-in_default : goal.returns-in_default

@@ -1,7 +1,6 @@
 use native.Mathlib.Omega.{arith}
 use Rattle.page.proofs.ElementSlots.{front_there}
 use Rattle.status_page.proofs.Refusals.{shelf_placed}
-use borrow.Author.Rules.{rules}
 use Rattle.status_page.proofs.writing.put.Goals as goal
 
 pub put-requires : goal.put-requires

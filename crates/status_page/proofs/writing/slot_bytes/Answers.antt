@@ -1,7 +1,6 @@
 use mathlib.Core.Path.{sym, ◌∙◌}
 use Rattle.bits.proofs.Logic.{pick_yes, pick_no}
 use Rattle.status_page.specs.Page.{slot_bytes}
-use borrow.Author.Rules.{rules}
 use Rattle.status_page.proofs.writing.slot_bytes.Goals as goal
 
 pub returns-then-at : goal.returns-then-at

@@ -1,6 +1,5 @@
 use native.Mathlib.Omega.{arith}
 use Rattle.status_page.proofs.Loops.{row_overall, row_element}
-use borrow.Author.Rules.{rules}
 use Rattle.status_page.proofs.writing.slot_row.Goals as goal
 
 pub status_at-requires : goal.status_at-requires

@@ -7,7 +7,6 @@ use Rattle.refusals.proofs.Left.{write_refused, write_room, write_short, write_p
 use Rattle.refusals.proofs.Stages.{slots_told, answer_told}
 use native.Mathlib.Omega.{arith}
 use mathlib.Core.Path.{refl}
-use borrow.Author.Rules.{rules}
 use Rattle.status_page.proofs.writing.write.Goals as goal
 
 pub returns-in_default : goal.returns-in_default

@@ -1,7 +1,6 @@
 use native.Mathlib.Omega.{arith}
 use Rattle.page.proofs.ElementSlots.{front_there}
 use Rattle.threshold_page_in.proofs.Refusals.{shelf_placed}
-use borrow.Author.Rules.{rules}
 use Rattle.threshold_page_in.proofs.writing.put.Goals as goal
 
 pub put-requires : goal.put-requires

@@ -1,8 +1,6 @@
 use mathlib.Core.Path.{◌≡◌, refl, ap, ◌∙◌}
-use Prim.Native.Nat.{◌-◌, ◌≤◌}
 use native.Mathlib.Omega.{arith}
-use borrow.Author.Rules.{rules}
-use Rattle.page.specs.Slots.{slot_place, slots_put, slot_carried}
+use Rattle.page.specs.Slots.{slot_place, slots_put}
 use Rattle.shelf_formed.proofs.ElementTypes.{front_formed_lem}
 use Rattle.shelf_formed.proofs.ElementPut.{shelf_there}
 use Rattle.page.proofs.ElementSlots.{slot_has}
@@ -19,7 +17,7 @@ pub run_to-here-requires : goal.run_to-here-requires
 run_to-here-requires c = record { has_front = shelf_there c.args.shelf.now c.requires.has_page.0; i_bound = omega (arith, c.requires.n_value, c.loop-i-test.true); run_value = c.loop-i.invariant.1 }
 
 pub slot_in-at-requires : goal.slot_in-at-requires
-slot_in-at-requires c = let s = c.args.shelf.now in run_stands s (front_formed_lem s c.requires.has_page.0) c.loop-i.i (omega (arith, c.requires.n_value, c.loop-i-test.true)) c.run_to-here.ensures
+slot_in-at-requires c = let s = c.args.shelf.now in let all = run_stands s (front_formed_lem s c.requires.has_page.0) c.loop-i.i (omega (arith, c.requires.n_value, c.loop-i-test.true)) c.run_to-here.ensures in record { i_lt_end = all.0; types_bound = all.1 }
 
 pub threshold_row-requires : goal.threshold_row-requires
 threshold_row-requires c = let s = c.args.shelf.now in

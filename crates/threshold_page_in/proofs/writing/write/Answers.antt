@@ -7,7 +7,6 @@ use Rattle.refusals.proofs.Left.{write_refused, write_room, write_short, write_p
 use Rattle.refusals.proofs.Stages.{slots_told, answer_told}
 use native.Mathlib.Omega.{arith}
 use mathlib.Core.Path.{refl}
-use borrow.Author.Rules.{rules}
 use Rattle.threshold_page_in.proofs.writing.write.Goals as goal
 
 pub returns-in_default : goal.returns-in_default
@@ -37,7 +36,7 @@ put-requires c = let a = c.args in
     let l = page_length s e.1 c.slot_place.ensures in
     let r = write_room (shelf_tested s) (threshold_page s) o refl e.0 l c.fit-fit.ensures c.in-Bytes.is
     in
-    record { has_types = (t.0, omega (arith, r, t.2, c.slot_place.ensures)); in_bounds = t.2 }
+    record { has_page = (t.0, omega (arith, r, t.2, c.slot_place.ensures)); n_value = t.2 }
 
 pub returns : goal.returns
 returns c = let a = c.args in

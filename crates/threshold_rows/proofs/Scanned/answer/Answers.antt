@@ -1,5 +1,4 @@
 use mathlib.Core.Path.{◌∙◌}
-use borrow.Author.Rules.{rules}
 use Rattle.threshold_rows.proofs.Scanned.answer.Goals as goal
 
 pub returns : goal.returns

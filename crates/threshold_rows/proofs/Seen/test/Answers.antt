@@ -2,7 +2,6 @@ use Rattle.refusals.specs.declared.Refusal.TheVariants.{NoSuchThreshold, Thresho
 use Rattle.refusals.specs.declared.Answer.TheVariants.{Accepted}
 use Rattle.refusals.specs.Outcomes.{unless}
 use Rattle.refusals.proofs.Stages.{stopped, gone_on}
-use borrow.Author.Rules.{rules}
 use Rattle.threshold_rows.proofs.Seen.test.Goals as goal
 
 pub returns-in_default : goal.returns-in_default

@@ -1,0 +1,14 @@
+use Rattle.status_reading.specs.Read.{status_read, status_record}
+use Rattle.refusals.proofs.Left.{read_handed}
+use mathlib.Core.Path.{sym, ◌∙◌}
+use Rattle.status_reading.proofs.reading.read.Goals as goal
+
+pub hand_over-requires : goal.hand_over-requires
+hand_over-requires c = sym c.test-tested.ensures ∙ c.in-Accepted.is
+
+pub returns : goal.returns
+returns c = let s = c.args in
+    let k = s.configuration.now in
+    let p = s.page.now in
+    read_handed (status_read k p) (status_record k p) s.fields.now c.test-tested.ensures
+    c.in-Accepted.is c.hand_over.ensures

@@ -3,7 +3,6 @@ use native.Mathlib.Omega.{arith}
 use Rattle.bits.proofs.Each.{bytes_of}
 use Rattle.shelf_formed.proofs.ElementPut.{length-formed, shelf_there}
 use Rattle.build_page.proofs.PromiseKept.{wish_refused, wish_there, reach_refused, reach_held, page_promised}
-use borrow.Author.Rules.{rules}
 use Rattle.build_page.proofs.build.Goals as goal
 
 pub returns-in_default : goal.returns-in_default

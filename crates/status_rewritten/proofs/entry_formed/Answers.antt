@@ -5,7 +5,6 @@ use Rattle.bits.proofs.Logic.{pick_yes, pick_no}
 use Rattle.element.specs.StatusLayout.{fit}
 use Rattle.element.specs.Status.{most_shown, most_overall}
 use Rattle.status_record.specs.Entries.{entry_at}
-use borrow.Author.Rules.{rules}
 use Rattle.status_rewritten.proofs.entry_formed.Goals as goal
 
 pub returns-then-at : goal.returns-then-at
@@ -22,6 +21,6 @@ returns-else-at c = let s = c.args in
     let o = s.at.overall in
     let k = s.at.kind in
     let x = entry_at s.fields.now s.i in
-    c.fits2.ensures
+    c.fits.ensures
     ∙ ap (λ (v : List ℕ). fit (most_shown k) v 16) c.entry_at-x.ensures
     ∙ ap (λ (v : List ℕ). fit v x 16) (sym (pick_no o most_overall (most_shown k) c.if-at.false))

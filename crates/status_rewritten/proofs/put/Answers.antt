@@ -2,7 +2,6 @@ use native.Mathlib.Omega.{arith}
 use Rattle.page.proofs.HeaderTests.{head_length}
 use Rattle.page.proofs.SlotBounds.{slots_bound}
 use Rattle.status_rewritten.proofs.Refusals.{again_placed}
-use borrow.Author.Rules.{rules}
 use Rattle.status_rewritten.proofs.put.Goals as goal
 
 pub put_slots-requires : goal.put_slots-requires

@@ -1,8 +1,6 @@
 use mathlib.Core.Path.{◌≡◌, refl, ap, ◌∙◌}
-use Prim.Native.Nat.{◌-◌, ◌≤◌}
 use native.Mathlib.Omega.{arith}
-use borrow.Author.Rules.{rules}
-use Rattle.page.specs.Slots.{slot_place, slots_put, slot_carried}
+use Rattle.page.specs.Slots.{slot_place, slots_put}
 use Rattle.page.proofs.SlotWalk.{run_stands, slot_walked, walk_on}
 use Rattle.bits.proofs.FoursPut.{fours_next, fours_length}
 use Rattle.status_page.specs.Page.{slot_row}

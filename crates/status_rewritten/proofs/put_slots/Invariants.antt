@@ -1,13 +1,8 @@
-use mathlib.Core.Path.{◌≡◌, refl, ap, ◌∙◌}
+use mathlib.Core.Path.{◌≡◌}
 use Prim.Native.Nat.{◌-◌, ◌≤◌}
-use native.Mathlib.Omega.{arith}
-use borrow.Author.Rules.{rules}
-use Rattle.page.specs.Slots.{slot_place, slots_put, slot_carried}
-use Rattle.page.proofs.SlotWalk.{run_stands, slot_walked, walk_on}
-use Rattle.bits.proofs.FoursPut.{fours_next, fours_length}
+use Rattle.page.specs.Slots.{slots_put, slot_carried}
 use Rattle.status_page.specs.Page.{slot_row}
 use Rattle.status_record.specs.Entries.{entry_at}
-use Rattle.status_page.proofs.Loops.{row_is}
 use Rattle.status_rewritten.proofs.put_slots.Given as goal
 
 abbrev pub invariant-loop-i : goal.invariant-loop-i

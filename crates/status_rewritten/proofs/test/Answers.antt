@@ -3,7 +3,6 @@ use Rattle.page.specs.Header.{configuration_tested}
 use Rattle.page.specs.Slots.{slots_of}
 use Rattle.page.proofs.SlotsCounted.{configuration_counted}
 use Rattle.status_rewritten.specs.Rewritten.{entries_tested, record_tested}
-use borrow.Author.Rules.{rules}
 use Rattle.status_rewritten.proofs.test.Goals as goal
 
 pub returns-in_default : goal.returns-in_default

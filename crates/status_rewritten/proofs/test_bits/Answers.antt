@@ -1,7 +1,5 @@
 use mathlib.Core.Path.{sym, ◌∙◌}
-use borrow.Author.Tests.{not-true, not-false}
 use Rattle.bits.proofs.Logic.{pick_yes, pick_no}
-use borrow.Author.Rules.{rules}
 use Rattle.status_rewritten.proofs.test_bits.Goals as goal
 
 pub returns-then-not-bits_formed : goal.returns-then-not-bits_formed

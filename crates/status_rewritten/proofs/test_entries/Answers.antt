@@ -1,7 +1,6 @@
 use native.Mathlib.Omega.{arith}
 use Rattle.page.proofs.SlotBounds.{slots_bound}
 use Rattle.status_rewritten.proofs.Refusals.{other_count, other_bits, fields_last}
-use borrow.Author.Rules.{rules}
 use Rattle.status_rewritten.proofs.test_entries.Goals as goal
 
 pub returns-in_default : goal.returns-in_default

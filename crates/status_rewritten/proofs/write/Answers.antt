@@ -2,7 +2,6 @@ use Rattle.status_rewritten.proofs.Refusals.{record_front, again_length}
 use Rattle.status_rewritten.specs.Rewritten.{record_tested, page_again}
 use Rattle.refusals.proofs.Left.{write_refused, write_room, write_short, write_put}
 use native.Mathlib.Omega.{arith}
-use borrow.Author.Rules.{rules}
 use Rattle.status_rewritten.proofs.write.Goals as goal
 
 pub returns-in_default : goal.returns-in_default

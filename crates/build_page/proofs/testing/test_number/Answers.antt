@@ -1,7 +1,6 @@
 use mathlib.Core.Path.{sym}
 use borrow.Author.Tests.{eq-eqb, ne_eqb}
 use Rattle.bits.proofs.Logic.{pick_yes, pick_no}
-use borrow.Author.Rules.{rules}
 use Rattle.build_page.proofs.testing.test_number.Goals as goal
 
 pub returns-then-wanted-n : goal.returns-then-wanted-n

@@ -1,12 +1,6 @@
-use mathlib.Core.Path.{◌≡◌, refl, sym}
-use Prim.Native.Nat.{◌-◌, ◌≤◌}
+use mathlib.Core.Path.{refl, sym}
 use native.Mathlib.Omega.{arith}
-use borrow.Author.Rules.{rules}
-use mathlib.Core.Bool.{true}
-use Rattle.bits.specs.Choice.{all_below}
-use borrow.Author.Tests.{not-true, not-false}
 use Rattle.bits.proofs.Logic.{pick_yes, pick_no}
-use Rattle.shelf.specs.Types.{carried}
 use Rattle.shelf.proofs.TypeRuns.{run_on}
 use Rattle.build_page.proofs.Loops.{formed_at, fails_at, passes_at, passes_all}
 use Rattle.build_page.specs.Promise.{may_be}

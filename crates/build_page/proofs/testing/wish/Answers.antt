@@ -2,7 +2,6 @@ use native.Mathlib.Omega.{arith}
 use Rattle.shelf_formed.proofs.ElementPut.{length-formed}
 use Rattle.page.proofs.HeaderTests.{shelf_formed, shelf_has}
 use Rattle.build_page.proofs.Refusals.{shelf_refused, other_number, as_many, records_last}
-use borrow.Author.Rules.{rules}
 use Rattle.build_page.proofs.testing.wish.Goals as goal
 
 pub returns-in_default : goal.returns-in_default

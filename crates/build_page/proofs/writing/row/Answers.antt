@@ -1,7 +1,6 @@
 use native.Mathlib.Omega.{arith}
 use Rattle.bits.specs.Numbers.{bytes}
 use Rattle.build_page.proofs.Loops.{row_overall, row_own}
-use borrow.Author.Rules.{rules}
 use Rattle.build_page.proofs.writing.row.Goals as goal
 
 pub returns-then-at : goal.returns-then-at

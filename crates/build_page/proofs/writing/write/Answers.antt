@@ -2,7 +2,6 @@ use native.Mathlib.Omega.{arith}
 use Rattle.shelf_formed.proofs.ElementPut.{shelf_there}
 use Rattle.page.proofs.HeaderTests.{head_length}
 use Rattle.build_page.proofs.Refusals.{no_room, room, page_built, page_left}
-use borrow.Author.Rules.{rules}
 use Rattle.build_page.proofs.writing.write.Goals as goal
 
 pub count-n-requires : goal.count-n-requires
@@ -29,4 +28,4 @@ returns c = let s = c.args in
     let e = c.count-n.ensures in
     let p = c.slot_place.ensures in
     let r = room s.shelf.now s.wanted.now s.out.now e p c.fit-fit.ensures c.in-Bytes.is in
-    let w = c.put_slots-selects in record { value = page_built s.shelf.now s.wanted.now s.out.now e p r.0 r.1 w.ensures.0; out_after = page_left s.shelf.now s.wanted.now s.out.now e p r.0 w.result r.1 c.put.ensures w.ensures.1 }
+    let w = c.put_slots-selects in record { value = page_built s.shelf.now s.wanted.now s.out.now e p r.0 r.1 w.ensures.value; out_after = page_left s.shelf.now s.wanted.now s.out.now e p r.0 w.result r.1 c.put.ensures w.ensures.out_after }

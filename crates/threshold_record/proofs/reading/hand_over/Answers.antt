@@ -1,6 +1,5 @@
 use native.Mathlib.Omega.{arith}
 use Rattle.threshold_record.proofs.Refusals.{read_front, page_there, entries_there, record_placed}
-use borrow.Author.Rules.{rules}
 use Rattle.threshold_record.proofs.reading.hand_over.Goals as goal
 
 pub count-n-requires : goal.count-n-requires

@@ -1,7 +1,6 @@
 use Rattle.threshold_record.specs.Read.{threshold_read, threshold_record}
 use Rattle.refusals.proofs.Left.{read_handed}
 use mathlib.Core.Path.{sym, ◌∙◌}
-use borrow.Author.Rules.{rules}
 use Rattle.threshold_record.proofs.reading.read.Goals as goal
 
 pub hand_over-requires : goal.hand_over-requires

@@ -4,7 +4,6 @@ use Rattle.page.specs.Header.{configuration_tested}
 use Rattle.page.specs.Slots.{slots_of}
 use Rattle.page.proofs.SlotsCounted.{configuration_counted}
 use Rattle.threshold_record.specs.Read.{threshold_tested, threshold_read}
-use borrow.Author.Rules.{rules}
 use Rattle.threshold_record.proofs.reading.test.Goals as goal
 
 pub returns-in_default : goal.returns-in_default

@@ -7,7 +7,6 @@ use Rattle.threshold_rows.specs.Rows.{on_page, offence, limits_tested, slots_tes
 use Rattle.threshold_rows.proofs.FirstOffence.{found}
 use Rattle.threshold_rows.proofs.ByteTests.{byte_refused, byte_passed}
 use Rattle.threshold_record.specs.Read.{bytes_tested}
-use borrow.Author.Rules.{rules}
 use Rattle.threshold_record.proofs.reading.test_bytes.Goals as goal
 
 pub returns-in_default : goal.returns-in_default

@@ -4,7 +4,6 @@ use Rattle.refusals.proofs.Stages.{page_stopped, page_gone_on}
 use Rattle.page.specs.Header.{headed}
 use Rattle.page.proofs.HeaderBothWays.{length-tested}
 use Rattle.threshold_record.specs.Read.{bytes_tested, threshold_tested}
-use borrow.Author.Rules.{rules}
 use Rattle.threshold_record.proofs.reading.test_page.Goals as goal
 
 pub returns-in_default : goal.returns-in_default

@@ -2,7 +2,6 @@ use native.Mathlib.Omega.{arith}
 use Rattle.page.proofs.HeaderTests.{head_length}
 use Rattle.page.proofs.SlotBounds.{slots_bound}
 use Rattle.threshold_record.proofs.Refusals.{again_placed}
-use borrow.Author.Rules.{rules}
 use Rattle.threshold_record.proofs.rewriting.put.Goals as goal
 
 pub copy-requires : goal.copy-requires

@@ -3,7 +3,6 @@ use Rattle.page.specs.Header.{configuration_tested}
 use Rattle.page.specs.Slots.{slots_of}
 use Rattle.page.proofs.SlotsCounted.{configuration_counted}
 use Rattle.threshold_record.specs.Rewritten.{entries_tested, record_tested}
-use borrow.Author.Rules.{rules}
 use Rattle.threshold_record.proofs.rewriting.test.Goals as goal
 
 pub returns-in_default : goal.returns-in_default

@@ -4,7 +4,6 @@ use Rattle.record_head.specs.Head.{count_tested}
 use Rattle.page.proofs.SlotBounds.{slots_bound}
 use Rattle.threshold_rows.specs.Rows.{in_record, rows_tested}
 use Rattle.threshold_record.specs.Rewritten.{entries_tested}
-use borrow.Author.Rules.{rules}
 use Rattle.threshold_record.proofs.rewriting.test_entries.Goals as goal
 
 pub returns-in_default : goal.returns-in_default

@@ -2,7 +2,6 @@ use Rattle.threshold_record.proofs.Refusals.{record_front, again_length}
 use Rattle.threshold_record.specs.Rewritten.{record_tested, page_again}
 use Rattle.refusals.proofs.Left.{write_refused, write_room, write_short, write_put}
 use native.Mathlib.Omega.{arith}
-use borrow.Author.Rules.{rules}
 use Rattle.threshold_record.proofs.rewriting.write.Goals as goal
 
 pub returns-in_default : goal.returns-in_default

@@ -1,4 +1,3 @@
-use borrow.Author.Rules.{rules}
 use Rattle.build_page.proofs.built.Built.refused.Goals as goal
 
 pub returns : goal.returns

@@ -16,7 +16,6 @@ use Rattle.bits.proofs.Logic.{by_case, fails, below_all, first_none}
 use Rattle.bits.proofs.Ends.{found, part_start, part_end, part_there}
 use Rattle.bits.proofs.Rows.{joined_same, bytes_get}
 use Rattle.bits.proofs.RowStarts.{start_first, start_step}
-use Rattle.refusals.specs.declared.Answer.TheVariants.{Accepted}
 use Rattle.refusals.specs.declared.PageAnswer.TheVariants as page
 use Rattle.record_head.specs.Head.{record_head}
 use Rattle.shelf.specs.Limits.{most_types, most_elements, most_text}

@@ -1,8 +1,7 @@
-use Prim.Native.Nat.{◌+◌, ◌-◌}
+use Prim.Native.Nat.{◌+◌}
 use native.Mathlib.Omega.{arith}
 use Rattle.bits.proofs.Texts.{run_bound}
 use Rattle.descriptor_record.proofs.FirstOffence.{at_first, at_second, at_length, at_text}
-use borrow.Author.Rules.{rules}
 use Rattle.descriptor_record.proofs.reading.descriptor_offence.Goals as goal
 
 pub returns-then-byte_at-ne0 : goal.returns-then-byte_at-ne0

@@ -1,7 +1,6 @@
 use native.Mathlib.Omega.{arith}
 use Rattle.descriptor_record.proofs.DescriptorPlaces.{place_up}
 use Rattle.descriptor_record.proofs.FirstOffence.{stopped_first, first_clear_lem}
-use borrow.Author.Rules.{rules}
 use Rattle.descriptor_record.proofs.reading.first_offence.Goals as goal
 
 pub byte_at-requires : goal.byte_at-requires

@@ -1,6 +1,5 @@
 use native.Mathlib.Omega.{arith}
 use Rattle.descriptor_record.proofs.Refusals.{read_front, record_placed}
-use borrow.Author.Rules.{rules}
 use Rattle.descriptor_record.proofs.reading.hand_over.Goals as goal
 
 pub count-n-requires : goal.count-n-requires

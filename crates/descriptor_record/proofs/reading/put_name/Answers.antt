@@ -1,7 +1,6 @@
 use mathlib.Core.Path.{ap}
 use Prim.Native.Nat.{ℕ, ◌+◌}
 use Rattle.descriptor_record.proofs.Refusals.{name_put}
-use borrow.Author.Rules.{rules}
 use Rattle.descriptor_record.proofs.reading.put_name.Goals as goal
 
 pub returns : goal.returns

@@ -1,7 +1,6 @@
 use mathlib.Core.Path.{◌≡◌, refl, ap, ◌∙◌}
-use Prim.Native.Nat.{ℕ, ◌+◌, ◌<◌, ◌≤◌, ◌-◌}
+use Prim.Native.Nat.{ℕ, ◌+◌, ◌<◌, ◌≤◌}
 use native.Mathlib.Omega.{arith}
-use Rattle.bits.specs.Rows.{rows_put}
 use Rattle.bits.proofs.RowsPut.{rows_next}
 use Rattle.shelf.specs.Limits.{most_text}
 use Rattle.page.specs.Slots.{slots_of}
@@ -10,7 +9,6 @@ use Rattle.descriptor_record.specs.Rewritten.{entry_place}
 use Rattle.descriptor_record.specs.Read.{declared, place_on, name_on}
 use Rattle.descriptor_record.proofs.DescriptorPlaces.{place_carried}
 use Rattle.descriptor_record.proofs.Refusals.{few_slots, short_name, name_there, page_small}
-use borrow.Author.Rules.{rules}
 use Rattle.descriptor_record.proofs.reading.put_names.Goals as goal
 
 pub loop-i-init : goal.loop-i-init

@@ -1,7 +1,6 @@
 use Rattle.descriptor_record.specs.Read.{names_read, names_record}
 use Rattle.refusals.proofs.Left.{read_handed}
 use mathlib.Core.Path.{sym, ◌∙◌}
-use borrow.Author.Rules.{rules}
 use Rattle.descriptor_record.proofs.reading.read.Goals as goal
 
 pub hand_over-requires : goal.hand_over-requires

@@ -3,7 +3,6 @@ use Rattle.page.specs.Header.{configuration_tested}
 use Rattle.page.specs.Slots.{slots_of}
 use Rattle.page.proofs.SlotsCounted.{configuration_counted}
 use Rattle.descriptor_record.specs.Read.{page_tested, names_read}
-use borrow.Author.Rules.{rules}
 use Rattle.descriptor_record.proofs.reading.test.Goals as goal
 
 pub returns-in_default : goal.returns-in_default

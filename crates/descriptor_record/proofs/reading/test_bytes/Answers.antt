@@ -1,6 +1,5 @@
 use mathlib.Core.Path.{refl}
 use Rattle.descriptor_record.proofs.Refusals.{bytes_tested_lem}
-use borrow.Author.Rules.{rules}
 use Rattle.descriptor_record.proofs.reading.test_bytes.Goals as goal
 
 pub returns : goal.returns

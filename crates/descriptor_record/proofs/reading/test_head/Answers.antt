@@ -1,5 +1,4 @@
 use Rattle.descriptor_record.proofs.Refusals.{frame_refused, said, length-refused, has_header, generation_last}
-use borrow.Author.Rules.{rules}
 use Rattle.descriptor_record.proofs.reading.test_head.Goals as goal
 
 pub returns-in_default : goal.returns-in_default
@@ -16,8 +15,11 @@ returns-in_default-length c = let s = c.args in
     c.test_length-length.ensures c.in_default-length.is
 
 pub test_generation-requires : goal.test_generation-requires
-test_generation-requires c = let a = c.args in record { has_types = c.requires; in_bounds = has_header a.configuration.now a.page.now a.n c.test_frame-frame.ensures c.in-Accepted.is
-          c.test_length-length.ensures c.in-Accepted-length.is }
+test_generation-requires c = let a = c.args in record {
+  has_types = c.requires;
+  in_bounds = has_header a.configuration.now a.page.now a.n c.test_frame-frame.ensures c.in-Accepted.is
+      c.test_length-length.ensures c.in-Accepted-length.is;
+}
 
 pub returns : goal.returns
 returns c = let s = c.args in

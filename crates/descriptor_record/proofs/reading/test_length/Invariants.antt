@@ -1,10 +1,6 @@
-use mathlib.Core.Path.{◌≡◌, refl, ap, ◌∙◌}
+use mathlib.Core.Path.{◌≡◌}
 use Prim.Native.Nat.{◌≤◌, ◌-◌}
-use native.Mathlib.Omega.{arith}
-use Rattle.page.specs.Header.{length_tested}
 use Rattle.descriptor_record.specs.Read.{place_on}
-use Rattle.descriptor_record.proofs.DescriptorPlaces.{said_small, declared_small, place_carried, too_long}
-use borrow.Author.Rules.{rules}
 use Rattle.descriptor_record.proofs.reading.test_length.Given as goal
 
 abbrev pub invariant-loop-i : goal.invariant-loop-i

@@ -2,7 +2,6 @@ use mathlib.Core.Path.{sym, ◌∙◌}
 use Rattle.refusals.proofs.Stages.{page_stopped, page_gone_on}
 use Rattle.descriptor_record.specs.Read.{head_tested, bytes_tested, page_tested}
 use Rattle.descriptor_record.proofs.Refusals.{bytes_there}
-use borrow.Author.Rules.{rules}
 use Rattle.descriptor_record.proofs.reading.test_page.Goals as goal
 
 pub returns-in_default : goal.returns-in_default

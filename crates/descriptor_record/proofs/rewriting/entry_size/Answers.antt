@@ -2,7 +2,6 @@ use mathlib.Core.Path.{sym, ◌∙◌}
 use native.Mathlib.Omega.{arith}
 use Rattle.names.proofs.NameBack.{name_bound}
 use Rattle.descriptor_record.proofs.RewrittenTests.{name_told, size_told, no_size}
-use borrow.Author.Rules.{rules}
 use Rattle.descriptor_record.proofs.rewriting.entry_size.Goals as goal
 
 pub is_ended-requires : goal.is_ended-requires

@@ -1,13 +1,7 @@
-use mathlib.Core.Path.{◌≡◌}
-use mathlib.Core.Bool.{true}
-use Prim.Native.Nat.{◌≤◌, ◌-◌}
 use native.Mathlib.Omega.{arith}
-use Rattle.bits.specs.Choice.{all_below}
-use Rattle.shelf.specs.Limits.{most_text}
 use Rattle.names.proofs.NameBack.{name_bound}
-use Rattle.descriptor_record.specs.Rewritten.{entry_place, end_byte}
+use Rattle.descriptor_record.specs.Rewritten.{entry_place}
 use Rattle.descriptor_record.proofs.RewrittenTests.{name_first, zero_next, not_ended, all_ended}
-use borrow.Author.Rules.{rules}
 use Rattle.descriptor_record.proofs.rewriting.is_ended.Goals as goal
 
 pub loop-k-init : goal.loop-k-init
@@ -20,10 +14,10 @@ returns-then-byte_at-ne0 c = let l = c.loop-k in
 
 pub loop-k-preserved : goal.loop-k-preserved
 loop-k-preserved c = let l = c.loop-k in (
-      omega (arith, l.invariant.0),
-      omega (arith, c.loop-k-test.true),
-      zero_next c.args.fields.now c.args.i l.k c.requires.n_value l.invariant.0 c.name_at-at.ensures c.byte_at.ensures l.invariant.2 c.if-byte_at-ne0.false,
-    )
+  omega (arith, l.invariant.0),
+  omega (arith, c.loop-k-test.true),
+  zero_next c.args.fields.now c.args.i l.k c.requires.n_value l.invariant.0 c.name_at-at.ensures c.byte_at.ensures l.invariant.2 c.if-byte_at-ne0.false,
+)
 
 pub returns : goal.returns
 returns c = let s = c.args in

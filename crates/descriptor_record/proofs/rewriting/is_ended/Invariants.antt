@@ -1,13 +1,9 @@
 use mathlib.Core.Path.{◌≡◌}
 use mathlib.Core.Bool.{true}
 use Prim.Native.Nat.{◌≤◌, ◌-◌}
-use native.Mathlib.Omega.{arith}
 use Rattle.bits.specs.Choice.{all_below}
 use Rattle.shelf.specs.Limits.{most_text}
-use Rattle.names.proofs.NameBack.{name_bound}
 use Rattle.descriptor_record.specs.Rewritten.{entry_place, end_byte}
-use Rattle.descriptor_record.proofs.RewrittenTests.{name_first, zero_next, not_ended, all_ended}
-use borrow.Author.Rules.{rules}
 use Rattle.descriptor_record.proofs.rewriting.is_ended.Given as goal
 
 abbrev pub invariant-loop-k : goal.invariant-loop-k

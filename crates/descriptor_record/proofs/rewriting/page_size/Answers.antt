@@ -1,8 +1,6 @@
 use mathlib.Core.Path.{◌≡◌, refl, sym, ap, ◌∙◌}
-use mathlib.Core.Bool.{true}
-use Prim.Native.Nat.{◌+◌, ◌≤◌, ◌-◌}
+use Prim.Native.Nat.{◌+◌}
 use native.Mathlib.Omega.{arith}
-use Rattle.bits.specs.Choice.{all_below}
 use Rattle.bits.proofs.Logic.{below_next}
 use Rattle.bits.proofs.RowStarts.{start_first, start_next}
 use Rattle.names.specs.Name.{name_in}
@@ -10,7 +8,6 @@ use Rattle.descriptor_page.specs.Page.{width}
 use Rattle.descriptor_page.proofs.DescriptorRows.{names_short}
 use Rattle.descriptor_record.specs.Rewritten.{entry_place, entry_formed, bytes_again}
 use Rattle.descriptor_record.proofs.RewrittenTests.{not_formed, formed, no_page, page_counted}
-use borrow.Author.Rules.{rules}
 use Rattle.descriptor_record.proofs.rewriting.page_size.Goals as goal
 
 pub loop-i-init : goal.loop-i-init

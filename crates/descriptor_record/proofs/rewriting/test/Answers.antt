@@ -2,7 +2,6 @@ use native.Mathlib.Omega.{arith}
 use Rattle.page.proofs.SlotsCounted.{configuration_counted}
 use Rattle.page.proofs.SlotBounds.{slots_bound}
 use Rattle.descriptor_record.proofs.RewrittenTests.{no_configuration, entries_last}
-use borrow.Author.Rules.{rules}
 use Rattle.descriptor_record.proofs.rewriting.test.Goals as goal
 
 pub returns-in_default : goal.returns-in_default

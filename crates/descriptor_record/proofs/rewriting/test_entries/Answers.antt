@@ -1,5 +1,4 @@
 use Rattle.descriptor_record.proofs.RewrittenTests.{count_refused, entries_refused, entries_passed}
-use borrow.Author.Rules.{rules}
 use Rattle.descriptor_record.proofs.rewriting.test_entries.Goals as goal
 
 pub returns-in_default : goal.returns-in_default

@@ -1,7 +1,6 @@
 use native.Mathlib.Omega.{arith}
 use Rattle.page.proofs.SlotBounds.{slots_bound}
 use Rattle.descriptor_record.proofs.RewrittenTests.{again_refused, again_front, again_bytes, again_written}
-use borrow.Author.Rules.{rules}
 use Rattle.descriptor_record.proofs.rewriting.write.Goals as goal
 
 pub returns-in_default : goal.returns-in_default

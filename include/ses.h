@@ -12,7 +12,7 @@
  * is to as many bytes as its length or its type says, and is not NULL, also where the length is 0; and what one
  * call is lent does not overlap.
  *
- * Link with libses.a (`rt staticlib ses`, x86-64).
+ * Link with libses.a (`tools/library`, x86-64).
  */
 #ifndef SES_H
 #define SES_H

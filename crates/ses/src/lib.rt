@@ -1,9 +1,7 @@
 // The public calls. Each takes whatever bytes it is given, and answers with a value or with one refusal.
 //
-// The module `c` has the same calls for C; include/ses.h declares them.
+// The crate `ses_c` has the same calls for C.
 #![tactic(auto)]
-
-pub mod c;
 
 ghost use Rattle.promises.specs.Promises.{Check, WriteConfiguration, WriteStatus, WriteThresholds, WriteDescriptors, ReadConfiguration, ReadStatus, ReadThresholds, ReadDescriptors, RewriteConfiguration, RewriteStatus, RewriteThresholds, RewriteDescriptors, ApplyControl, ApplyThresholds, EmptyCollector, PutChunk, EndPage, BuildControl, FindName, SetName, SetOverallName};
 
@@ -13,7 +11,7 @@ use page::testing;
 use refusals::{Answer, PageAnswer, Tested, Written};
 use shelf::limits;
 
-// Is this block a well_formed_lem shelf?
+// Is this block a well-formed shelf?
 pub fn check(shelf: &[u8]) -> Answer
     ensures { Check shelf.now result }
 {

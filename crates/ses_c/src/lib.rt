@@ -1,5 +1,9 @@
 // The public calls for C: a refusal is told by its number; bytes written, SELECTs, the offset of an offending byte and an element
 // found through references. An offset is 0 unless a refusal tells it.
+//
+// Each calls its namesake in the crate `ses`; include/ses.h declares them.
+#![tactic(auto)]
+
 ghost use Rattle.promises.specs.PromisesForC.{CheckForC, WriteConfigurationForC, WriteStatusForC, WriteThresholdsForC, WriteDescriptorsForC, ReadConfigurationForC, ReadStatusForC, ReadThresholdsForC, ReadDescriptorsForC, RewriteConfigurationForC, RewriteStatusForC, RewriteThresholdsForC, RewriteDescriptorsForC, ApplyControlForC, ApplyThresholdsForC, EmptyCollectorForC, PutChunkForC, EndPageForC, BuildControlForC, FindNameForC, SetNameForC, SetOverallNameForC};
 
 use shelf::limits;
@@ -8,14 +12,14 @@ use shelf::limits;
 pub extern "C" fn ses_check(shelf: &[u8]) -> u8
     ensures { CheckForC shelf.now result }
 {
-    crate::check(shelf).number()
+    ses::check(shelf).number()
 }
 
 #[unsafe(no_mangle)]
 pub extern "C" fn ses_write_configuration(shelf: &[u8], out: &mut [u8], written: &mut u32) -> u8
     ensures { WriteConfigurationForC shelf.now out.old result out.new written.new }
 {
-    let answer = crate::write_configuration(shelf, out);
+    let answer = ses::write_configuration(shelf, out);
     *written = answer.bytes();
     answer.number()
 }
@@ -24,7 +28,7 @@ pub extern "C" fn ses_write_configuration(shelf: &[u8], out: &mut [u8], written:
 pub extern "C" fn ses_write_status(shelf: &[u8], out: &mut [u8], written: &mut u32) -> u8
     ensures { WriteStatusForC shelf.now out.old result out.new written.new }
 {
-    let answer = crate::write_status(shelf, out);
+    let answer = ses::write_status(shelf, out);
     *written = answer.bytes();
     answer.number()
 }
@@ -33,7 +37,7 @@ pub extern "C" fn ses_write_status(shelf: &[u8], out: &mut [u8], written: &mut u
 pub extern "C" fn ses_write_thresholds(shelf: &[u8], out: &mut [u8], written: &mut u32) -> u8
     ensures { WriteThresholdsForC shelf.now out.old result out.new written.new }
 {
-    let answer = crate::write_thresholds(shelf, out);
+    let answer = ses::write_thresholds(shelf, out);
     *written = answer.bytes();
     answer.number()
 }
@@ -42,7 +46,7 @@ pub extern "C" fn ses_write_thresholds(shelf: &[u8], out: &mut [u8], written: &m
 pub extern "C" fn ses_write_descriptors(shelf: &[u8], out: &mut [u8], written: &mut u32) -> u8
     ensures { WriteDescriptorsForC shelf.now out.old result out.new written.new }
 {
-    let answer = crate::write_descriptors(shelf, out);
+    let answer = ses::write_descriptors(shelf, out);
     *written = answer.bytes();
     answer.number()
 }
@@ -56,7 +60,7 @@ pub extern "C" fn ses_read_configuration(
     ensures { ReadConfigurationForC page.now configuration.old result configuration.new offset.new }
 {
     *offset = 0;
-    crate::read_configuration(page, configuration).tell(offset)
+    ses::read_configuration(page, configuration).tell(offset)
 }
 
 #[unsafe(no_mangle)]
@@ -69,7 +73,7 @@ pub extern "C" fn ses_read_status(
     ensures { ReadStatusForC configuration.now page.now fields.old result fields.new offset.new }
 {
     *offset = 0;
-    crate::read_status(configuration, page, fields).tell(offset)
+    ses::read_status(configuration, page, fields).tell(offset)
 }
 
 #[unsafe(no_mangle)]
@@ -82,7 +86,7 @@ pub extern "C" fn ses_read_thresholds(
     ensures { ReadThresholdsForC configuration.now page.now fields.old result fields.new offset.new }
 {
     *offset = 0;
-    crate::read_thresholds(configuration, page, fields).tell(offset)
+    ses::read_thresholds(configuration, page, fields).tell(offset)
 }
 
 #[unsafe(no_mangle)]
@@ -95,7 +99,7 @@ pub extern "C" fn ses_read_descriptors(
     ensures { ReadDescriptorsForC configuration.now page.now fields.old result fields.new offset.new }
 {
     *offset = 0;
-    crate::read_descriptors(configuration, page, fields).tell(offset)
+    ses::read_descriptors(configuration, page, fields).tell(offset)
 }
 
 #[unsafe(no_mangle)]
@@ -106,7 +110,7 @@ pub extern "C" fn ses_rewrite_configuration(
 ) -> u8
     ensures { RewriteConfigurationForC configuration.now out.old result out.new written.new }
 {
-    let answer = crate::rewrite_configuration(configuration, out);
+    let answer = ses::rewrite_configuration(configuration, out);
     *written = answer.bytes();
     answer.number()
 }
@@ -120,7 +124,7 @@ pub extern "C" fn ses_rewrite_status(
 ) -> u8
     ensures { RewriteStatusForC configuration.now fields.now out.old result out.new written.new }
 {
-    let answer = crate::rewrite_status(configuration, fields, out);
+    let answer = ses::rewrite_status(configuration, fields, out);
     *written = answer.bytes();
     answer.number()
 }
@@ -134,7 +138,7 @@ pub extern "C" fn ses_rewrite_thresholds(
 ) -> u8
     ensures { RewriteThresholdsForC configuration.now fields.now out.old result out.new written.new }
 {
-    let answer = crate::rewrite_thresholds(configuration, fields, out);
+    let answer = ses::rewrite_thresholds(configuration, fields, out);
     *written = answer.bytes();
     answer.number()
 }
@@ -148,7 +152,7 @@ pub extern "C" fn ses_rewrite_descriptors(
 ) -> u8
     ensures { RewriteDescriptorsForC configuration.now fields.now out.old result out.new written.new }
 {
-    let answer = crate::rewrite_descriptors(configuration, fields, out);
+    let answer = ses::rewrite_descriptors(configuration, fields, out);
     *written = answer.bytes();
     answer.number()
 }
@@ -158,7 +162,7 @@ pub extern "C" fn ses_apply_control(shelf: &mut [u8], page: &[u8], offset: &mut 
     ensures { ApplyControlForC shelf.old page.now result shelf.new offset.new }
 {
     *offset = 0;
-    crate::apply_control(shelf, page).tell(offset)
+    ses::apply_control(shelf, page).tell(offset)
 }
 
 #[unsafe(no_mangle)]
@@ -166,21 +170,21 @@ pub extern "C" fn ses_apply_thresholds(shelf: &mut [u8], page: &[u8], offset: &m
     ensures { ApplyThresholdsForC shelf.old page.now result shelf.new offset.new }
 {
     *offset = 0;
-    crate::apply_thresholds(shelf, page).tell(offset)
+    ses::apply_thresholds(shelf, page).tell(offset)
 }
 
 #[unsafe(no_mangle)]
 pub extern "C" fn ses_empty_collector(collector: &mut [u8; collector::LENGTH])
     ensures { EmptyCollectorForC collector.old collector.new }
 {
-    crate::empty_collector(collector);
+    ses::empty_collector(collector);
 }
 
 #[unsafe(no_mangle)]
 pub extern "C" fn ses_put_chunk(collector: &mut [u8; collector::LENGTH], chunk: &[u8])
     ensures { PutChunkForC collector.old chunk.now collector.new }
 {
-    crate::put_chunk(collector, chunk);
+    ses::put_chunk(collector, chunk);
 }
 
 #[unsafe(no_mangle)]
@@ -193,7 +197,7 @@ pub extern "C" fn ses_end_page(
     ensures { EndPageForC collector.old shelf.old code result collector.new shelf.new offset.new }
 {
     *offset = 0;
-    crate::end_page(collector, shelf, code).tell(offset)
+    ses::end_page(collector, shelf, code).tell(offset)
 }
 
 #[unsafe(no_mangle)]
@@ -206,7 +210,7 @@ pub extern "C" fn ses_build_control(
 ) -> u8
     ensures { BuildControlForC shelf.now wanted.now out.old result out.new written.new selects.new }
 {
-    let built = crate::build_control(shelf, wanted, out);
+    let built = ses::build_control(shelf, wanted, out);
     *written = built.bytes();
     *selects = built.selects();
     built.number()
@@ -216,7 +220,7 @@ pub extern "C" fn ses_build_control(
 pub extern "C" fn ses_find_name(shelf: &[u8], text: &[u8], element: &mut u32) -> u8
     ensures { FindNameForC shelf.now text.now result element.new }
 {
-    let found = crate::find_name(shelf, text);
+    let found = ses::find_name(shelf, text);
     *element = found.element();
     found.number()
 }
@@ -225,12 +229,12 @@ pub extern "C" fn ses_find_name(shelf: &[u8], text: &[u8], element: &mut u32) ->
 pub extern "C" fn ses_set_name(shelf: &mut [u8], element: u32, text: &[u8]) -> u8
     ensures { SetNameForC shelf.old element text.now result shelf.new }
 {
-    crate::set_name(shelf, element, text).number()
+    ses::set_name(shelf, element, text).number()
 }
 
 #[unsafe(no_mangle)]
 pub extern "C" fn ses_set_overall_name(shelf: &mut [u8], number: u32, text: &[u8]) -> u8
     ensures { SetOverallNameForC shelf.old number text.now result shelf.new }
 {
-    crate::set_overall_name(shelf, number, text).number()
+    ses::set_overall_name(shelf, number, text).number()
 }

@@ -2,4 +2,3 @@
 // (proofs/Cases.antt); beside them the error that document 01 counts in SELECTs (specs/Errors.antt). They speak of the definitions that
 // the calls' contracts cite, so there is no code here.
 #![tactic(auto)]
-

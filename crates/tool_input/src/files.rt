@@ -3,11 +3,17 @@
 // A buffer has one byte more than the longest shelf or wanted list, or than the most that a page's length field can tell.
 // So a longer file fills it, and is refused by that length as it would be by its own: as a shelf, 1; as a page, 4, and
 // as a wanted list, 9, unless the shelf or a page's byte 0 is refused before. What follows in the file changes no answer.
-ghost use Rattle.std.specs.Prelude.{◌≡◌};
-ghost use Rattle.io.specs.Counts.{IsPrefixLen};
+ghost use Rattle.std.specs.Prelude.{◌≡◌, IfOk};
+ghost use Rattle.tool_input.specs.Counts.{IsPrefixLen};
 
 use crate::arguments;
 use shelf::limits;
+use std::env::FillError;
+use std::fmt::InlineText;
+use std::fs::File;
+use std::io;
+use std::io::{ErrorKind, Read};
+use std::rt::{Env, Files};
 
 pub const BLOCK_ROOM: usize = limits::LONGEST_BLOCK + 1;
 
@@ -15,8 +21,11 @@ pub const WANTED_ROOM: usize = limits::LONGEST_WANTED_LIST + 1;
 
 pub const PAGE_ROOM: usize = 0xffff + 4 + 1;
 
+// The system takes no longer path.
+const PATH_ROOM: usize = 4096;
+
 // Whether the file could be read, and how many bytes of it stand at the start of the buffer.
-#[derive(Drop)]
+#[derive(Clone, Copy)]
 pub struct Loaded {
     pub is_done: bool,
     pub bytes: usize,
@@ -29,44 +38,106 @@ impl Loaded {
     };
 
     // What keeps the file from being read.
-    fn failed(name: &[u8]) -> Loaded
-        ensures { result.bytes ≡ 0 }
+    fn failed(err: &impl Print, name: &[u8], why: io::Error) -> io::Result<Loaded>
+        ensures { IfOk result (λ loaded. loaded.bytes ≡ 0) }
     {
-        os::fail(name);
-        arguments::say_usage();
-        Loaded::FAILED
+        err.write_all(name)?;
+        err.write_all(b": ")?;
+        say_why(err, why)?;
+        err.write_all(b"\n")?;
+        arguments::say_usage(err)?;
+        Ok(Loaded::FAILED)
+    }
+}
+
+// The system's words, without its number behind them.
+fn say_why(err: &impl Print, why: io::Error) -> io::Result<()> {
+    let told = InlineText::<128>::of(why);
+    match told.as_str().split_once(" (os error ") {
+        Some((words, _)) => err.print(words),
+        None => err.print(told.as_str()),
     }
 }
 
 // What keeps the file from being read goes to standard error with the usage, under the argument's name if it is too long for a path.
-pub fn load(argument: u8, name: &[u8], buffer: &mut [u8]) -> Loaded
-    ensures { IsPrefixLen result.bytes buffer.new }
+pub fn load<R: Env + Files>(
+    rt: &R,
+    err: &impl Print,
+    argument: u8,
+    name: &[u8],
+    buffer: &mut [u8],
+) -> io::Result<Loaded>
+    ensures { IfOk result (λ loaded. IsPrefixLen loaded.bytes buffer.new) }
 {
-    let mut path = io::buffer();
-    let n = os::arg(argument as usize, &mut path);
-    if os::errno() != 0 {
-        return Loaded::failed(name);
+    let mut path = [0u8; PATH_ROOM];
+    match rt.arg(argument as usize, &mut path) {
+        Ok(n) => load_named(rt, err, &path[..n], buffer),
+        Err(e) => Loaded::failed(err, name, no_path(e)),
     }
-    let fd = os::open_read(&path[..n]);
-    if fd < 0 {
-        return Loaded::failed(&path[..n]);
-    }
-    let loaded = load_open(fd, &path[..n], buffer);
-    libc::close(fd);
-    loaded
 }
 
-// `read_full` answers alike where the file ends and where a read fails: one more read tells the two apart.
-fn load_open(fd: i32, path: &[u8], buffer: &mut [u8]) -> Loaded
-    ensures { IsPrefixLen result.bytes buffer.new }
+fn no_path(e: FillError) -> io::Error {
+    match e {
+        FillError::NotPresent => io::Error::new(ErrorKind::InvalidInput, "Invalid argument"),
+        FillError::TooLong => io::Error::new(ErrorKind::InvalidFilename, "File name too long"),
+    }
+}
+
+fn load_named<R: Files>(
+    rt: &R,
+    err: &impl Print,
+    path: &[u8],
+    buffer: &mut [u8],
+) -> io::Result<Loaded>
+    ensures { IfOk result (λ loaded. IsPrefixLen loaded.bytes buffer.new) }
 {
-    let bytes = io::read_full(fd, buffer);
+    match open(rt, path) {
+        Ok(mut file) => load_open(err, &mut file, path, buffer),
+        Err(e) => Loaded::failed(err, path, e),
+    }
+}
+
+// The library opens a file by a name that is text.
+fn open<R: Files>(rt: &R, path: &[u8]) -> io::Result<R::File> {
+    match str::from_utf8(path) {
+        Ok(path) => File::open(rt, path),
+        Err(_) => Err(io::Error::new(
+            ErrorKind::InvalidFilename,
+            "Invalid or incomplete multibyte or wide character",
+        )),
+    }
+}
+
+fn load_open(
+    err: &impl Print,
+    file: &mut impl Read,
+    path: &[u8],
+    buffer: &mut [u8],
+) -> io::Result<Loaded>
+    ensures { IfOk result (λ loaded. IsPrefixLen loaded.bytes buffer.new) }
+{
+    match read_full(file, buffer) {
+        Ok(bytes) => Ok(Loaded {
+            is_done: true,
+            bytes,
+        }),
+        Err(e) => Loaded::failed(err, path, e),
+    }
+}
+
+// Reads until the buffer is full or the file ends. A full buffer does not show whether what follows can be read: one more read does.
+fn read_full(file: &mut impl Read, buffer: &mut [u8]) -> io::Result<usize>
+    ensures { IfOk result (λ n. IsPrefixLen n buffer.new) }
+{
+    let mut done = 0;
+    while done < buffer.len() {
+        let n = file.read(&mut buffer[done..])?;
+        if n == 0 {
+            return Ok(done);
+        }
+        done += n;
+    }
     let mut next = [0u8; 1];
-    if libc::read(fd, &mut next) < 0 {
-        return Loaded::failed(path);
-    }
-    Loaded {
-        is_done: true,
-        bytes,
-    }
+    file.read(&mut next)?;
+    Ok(done)
 }

@@ -3,35 +3,37 @@
 
 pub mod refusal;
 
-use libc::STDOUT_FILENO;
+use std::io;
 
-pub fn text(words: &[u8]) {
-    io::write_all(STDOUT_FILENO, words);
+pub fn text(rt: &impl Print, words: &[u8]) -> io::Result<()> {
+    rt.write_all(words)
 }
 
-pub fn number(n: u64) {
-    io::print_decimal(STDOUT_FILENO, n);
+pub fn number(rt: &impl Print, n: u64) -> io::Result<()> {
+    rt.print(n)
 }
 
-pub fn labelled(words: &[u8], n: u64) {
-    text(words);
-    number(n);
+pub fn labelled(rt: &impl Print, words: &[u8], n: u64) -> io::Result<()> {
+    text(rt, words)?;
+    number(rt, n)
 }
 
 // After a comma, a number of things, named by the word for one of them.
-pub fn count(n: u64, one: &[u8]) {
-    labelled(b", ", n);
-    text(one);
+pub fn count(rt: &impl Print, n: u64, one: &[u8]) -> io::Result<()> {
+    labelled(rt, b", ", n)?;
+    text(rt, one)?;
     if n != 1 {
-        text(b"s");
+        text(rt, b"s")?;
     }
+    Ok(())
 }
 
-pub fn flag(is_set: bool, name: &[u8]) {
+pub fn flag(rt: &impl Print, is_set: bool, name: &[u8]) -> io::Result<()> {
     if is_set {
-        text(b", ");
-        text(name);
+        text(rt, b", ")?;
+        text(rt, name)?;
     }
+    Ok(())
 }
 
 fn hex_digit(n: u8) -> u8 {
@@ -39,8 +41,8 @@ fn hex_digit(n: u8) -> u8 {
     if d < 10 { b'0' + d } else { b'A' - 10 + d }
 }
 
-pub fn hex(b: u8) {
-    text(&[hex_digit(b / 16), hex_digit(b)]);
+pub fn hex(rt: &impl Print, b: u8) -> io::Result<()> {
+    text(rt, &[hex_digit(b / 16), hex_digit(b)])
 }
 
 // The n bytes from a place on, or none where they would not fit.
@@ -50,17 +52,15 @@ fn part(s: &[u8], at: u32, n: u32) -> &[u8] {
     if e <= s.len() { &s[a..e] } else { &s[..0] }
 }
 
-pub fn hex_at(s: &[u8], at: u32, n: u32) {
-    let bytes = part(s, at, n);
-    let mut i = 0;
-    while i < bytes.len() {
-        hex(bytes[i]);
-        i += 1;
+pub fn hex_at(rt: &impl Print, s: &[u8], at: u32, n: u32) -> io::Result<()> {
+    for b in part(s, at, n) {
+        hex(rt, *b)?;
     }
+    Ok(())
 }
 
-fn small_hex(b: u8) {
-    io::print_hex(STDOUT_FILENO, b as u64, 2);
+fn small_hex(rt: &impl Print, b: u8) -> io::Result<()> {
+    print!(rt; "{b:02x}")
 }
 
 // What follows byte i of n, counted from 1: sixteen stand in a line.
@@ -73,14 +73,13 @@ fn gap(i: usize, n: usize) -> u8 {
 }
 
 // The first n bytes in lower case and nothing else, as sg_ses takes a page.
-pub fn hex_lines(s: &[u8], n: u32) {
+pub fn hex_lines(rt: &impl Print, s: &[u8], n: u32) -> io::Result<()> {
     let bytes = part(s, 0, n);
-    let mut i = 0;
-    while i < bytes.len() {
-        small_hex(bytes[i]);
-        i += 1;
-        text(&[gap(i, bytes.len())]);
+    for (i, b) in bytes.iter().enumerate() {
+        small_hex(rt, *b)?;
+        text(rt, &[gap(i + 1, bytes.len())])?;
     }
+    Ok(())
 }
 
 fn printable(b: u8) -> u8 {
@@ -88,42 +87,39 @@ fn printable(b: u8) -> u8 {
 }
 
 // The words, which end with a quotation mark, the text that stands at a place, and the closing mark.
-pub fn quoted_at(words: &[u8], s: &[u8], at: u32, n: u32) {
-    let bytes = part(s, at, n);
-    text(words);
-    let mut i = 0;
-    while i < bytes.len() {
-        text(&[printable(bytes[i])]);
-        i += 1;
+pub fn quoted_at(rt: &impl Print, words: &[u8], s: &[u8], at: u32, n: u32) -> io::Result<()> {
+    text(rt, words)?;
+    for b in part(s, at, n) {
+        text(rt, &[printable(*b)])?;
     }
-    text(b"\"");
+    text(rt, b"\"")
 }
 
 fn decimal_digit(n: u32) -> u8 {
     b'0' + (n % 10) as u8
 }
 
-fn hundredths(n: u32) {
-    number((n / 100) as u64);
-    text(&[b'.', decimal_digit(n / 10), decimal_digit(n)]);
+fn hundredths(rt: &impl Print, n: u32) -> io::Result<()> {
+    number(rt, (n / 100) as u64)?;
+    text(rt, &[b'.', decimal_digit(n / 10), decimal_digit(n)])
 }
 
 // A signed 16-bit number of hundredths.
-pub fn signed_hundredths(n: u16) {
+pub fn signed_hundredths(rt: &impl Print, n: u16) -> io::Result<()> {
     if n < 0x8000 {
-        hundredths(n as u32);
+        hundredths(rt, n as u32)
     } else {
-        text(b"-");
-        hundredths(0x10000 - n as u32);
+        text(rt, b"-")?;
+        hundredths(rt, 0x10000 - n as u32)
     }
 }
 
 // A temperature byte is degrees C plus 20.
-pub fn degrees(b: u16) {
+pub fn degrees(rt: &impl Print, b: u16) -> io::Result<()> {
     if b < 20 {
-        text(b"-");
-        number((20 - b) as u64);
+        text(rt, b"-")?;
+        number(rt, (20 - b) as u64)
     } else {
-        number((b - 20) as u64);
+        number(rt, (b - 20) as u64)
     }
 }

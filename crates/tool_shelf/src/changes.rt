@@ -4,6 +4,7 @@
 ghost use Rattle.std.specs.Prelude.{◌<◌, ◌≤◌};
 
 use crate::builtin;
+use std::io;
 
 const FIRST_ELEMENT: usize = 332;
 
@@ -11,28 +12,40 @@ const ELEMENT_SIZE: usize = 16;
 
 const FIRST_NAME: usize = 492;
 
-pub fn tell(before: &[u8; builtin::LENGTH], after: &[u8; builtin::LENGTH]) {
-    tell_elements(before, after);
-    tool_print::text(b"all else");
+pub fn tell(
+    rt: &impl Print,
+    before: &[u8; builtin::LENGTH],
+    after: &[u8; builtin::LENGTH],
+) -> io::Result<()> {
+    tell_elements(rt, before, after)?;
+    tool_print::text(rt, b"all else")?;
     let front = changed(before, after, 0, FIRST_ELEMENT);
     let names = changed(before, after, FIRST_NAME, builtin::LENGTH);
-    say_changed(front as u64 + names as u64);
+    say_changed(rt, front as u64 + names as u64)
 }
 
-fn tell_elements(before: &[u8; builtin::LENGTH], after: &[u8; builtin::LENGTH]) {
-    let mut j: u16 = 0;
-    while j < builtin::ELEMENTS {
-        tell_element(before, after, j);
-        j += 1;
+fn tell_elements(
+    rt: &impl Print,
+    before: &[u8; builtin::LENGTH],
+    after: &[u8; builtin::LENGTH],
+) -> io::Result<()> {
+    for j in 0..builtin::ELEMENTS {
+        tell_element(rt, before, after, j)?;
     }
+    Ok(())
 }
 
-fn tell_element(before: &[u8; builtin::LENGTH], after: &[u8; builtin::LENGTH], j: u16)
+fn tell_element(
+    rt: &impl Print,
+    before: &[u8; builtin::LENGTH],
+    after: &[u8; builtin::LENGTH],
+    j: u16,
+) -> io::Result<()>
     requires { j < 10 }
 {
     let at = FIRST_ELEMENT + ELEMENT_SIZE * j as usize;
-    tool_print::labelled(b"element ", j as u64);
-    say_changed(changed(before, after, at, at + ELEMENT_SIZE) as u64);
+    tool_print::labelled(rt, b"element ", j as u64)?;
+    say_changed(rt, changed(before, after, at, at + ELEMENT_SIZE) as u64)
 }
 
 // How many bytes differ, from a place up to an end.
@@ -55,13 +68,13 @@ fn changed(
     n
 }
 
-fn say_changed(n: u64) {
+fn say_changed(rt: &impl Print, n: u64) -> io::Result<()> {
     match n {
-        0 => tool_print::text(b": kept every byte\n"),
-        1 => tool_print::text(b": 1 byte changed\n"),
+        0 => tool_print::text(rt, b": kept every byte\n"),
+        1 => tool_print::text(rt, b": 1 byte changed\n"),
         _ => {
-            tool_print::labelled(b": ", n);
-            tool_print::text(b" bytes changed\n");
+            tool_print::labelled(rt, b": ", n)?;
+            tool_print::text(rt, b" bytes changed\n")
         }
     }
 }

@@ -4,15 +4,16 @@ ghost use Rattle.shelf.specs.Limits.{element_place};
 
 use shelf::{elements, limits};
 use shelf_formed::Opened;
+use std::io;
 
-// The list of a well_formed_lem shelf, in hexadecimal.
-pub fn show(shelf: &[u8]) {
+// The list of a well-formed shelf, in hexadecimal.
+pub fn show(rt: &impl Print, shelf: &[u8]) -> io::Result<()> {
     let mut list = [0u8; limits::LONGEST_WANTED_LIST];
     let n = put(shelf, &mut list);
-    tool_print::hex_lines(&list, 4 * n as u32);
+    tool_print::hex_lines(rt, &list, 4 * n as u32)
 }
 
-// Puts the records of a well_formed_lem shelf, where there is room for all, and tells how many.
+// Puts the records of a well-formed shelf, where there is room for all, and tells how many.
 pub fn put(shelf: &[u8], list: &mut [u8]) -> u16 {
     let opened = shelf_formed::open_shelf(shelf);
     let Opened::Shelf(sizes) = opened else {
@@ -28,8 +29,8 @@ pub fn put(shelf: &[u8], list: &mut [u8]) -> u16 {
 }
 
 fn put_records(shelf: &[u8], list: &mut [u8], n: u16)
-    requires n_in_bounds { element_place n ≤ length shelf.now }
-    requires n_in_bounds_2 { 4 * n ≤ length list.old }
+    requires n_in_shelf { element_place n ≤ length shelf.now }
+    requires n_in_list { 4 * n ≤ length list.old }
 {
     let mut j: u16 = 0;
     while j < n {

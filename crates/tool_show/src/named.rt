@@ -13,17 +13,23 @@ use page::slots::SlotRun;
 use refusals::Tested;
 use shelf::types;
 use shelf_formed::Opened;
+use std::io;
 
 // The record of a page for this shelf.
-pub fn tell_record(shelf: &[u8], names: &[u8; reading::LENGTH]) {
+pub fn tell_record(rt: &impl Print, shelf: &[u8], names: &[u8; reading::LENGTH]) -> io::Result<()> {
     let counted = page::testing::shelf_slots(shelf);
     let Tested::Slots(n) = counted else {
-        return;
+        return Ok(());
     };
-    tell_entries(shelf, names, n);
+    tell_entries(rt, shelf, names, n)
 }
 
-fn tell_entries(shelf: &[u8], names: &[u8; reading::LENGTH], n: u16)
+fn tell_entries(
+    rt: &impl Print,
+    shelf: &[u8],
+    names: &[u8; reading::LENGTH],
+    n: u16,
+) -> io::Result<()>
     requires has_front { HasFront shelf.now }
     requires n_value { n ≡ slots_of shelf.now }
 {
@@ -31,38 +37,50 @@ fn tell_entries(shelf: &[u8], names: &[u8; reading::LENGTH], n: u16)
     let mut i: u16 = 0;
     while i < n {
         run = slots::run_to(shelf, run, i);
-        tell_entry(names, run, i);
+        tell_entry(rt, names, run, i)?;
         i += 1;
     }
+    Ok(())
 }
 
-fn tell_entry(names: &[u8; reading::LENGTH], run: SlotRun, i: u16)
+fn tell_entry(
+    rt: &impl Print,
+    names: &[u8; reading::LENGTH],
+    run: SlotRun,
+    i: u16,
+) -> io::Result<()>
     requires le_types { 1 ≤ run.types }
     requires i_lt_end { i < run.end }
     requires types_bound { run.types ≤ i + num run.overall }
     requires i_bound { i < most_types + most_elements }
 {
-    place::say_slot(run, i);
-    words::say_name(b": \"", names, writing::name_at(reading::FIRST_ENTRY, i));
-    tool_print::text(b"\n");
+    place::say_slot(rt, run, i)?;
+    words::say_name(
+        rt,
+        b": \"",
+        names,
+        writing::name_at(reading::FIRST_ENTRY, i),
+    )?;
+    tool_print::text(rt, b"\n")
 }
 
 // Element j with its type, if there are so many.
-pub fn tell_element(shelf: &[u8], j: u32) {
+pub fn tell_element(rt: &impl Print, shelf: &[u8], j: u32) -> io::Result<()> {
     let opened = shelf_formed::open_shelf(shelf);
     let Opened::Shelf(sizes) = opened else {
-        return;
+        return Ok(());
     };
     if j < sizes.elements as u32 {
-        say_run(types::run_of(shelf, j as u16), j);
+        say_run(rt, types::run_of(shelf, j as u16), j)?;
     }
+    Ok(())
 }
 
-fn say_run(run: types::Run, j: u32) {
+fn say_run(rt: &impl Print, run: types::Run, j: u32) -> io::Result<()> {
     let kind = run.kind;
-    tool_print::labelled(b"element ", j as u64);
-    tool_print::text(b": ");
-    words::say_kind(kind);
-    tool_print::labelled(b", type ", run.number as u64);
-    tool_print::text(b"\n");
+    tool_print::labelled(rt, b"element ", j as u64)?;
+    tool_print::text(rt, b": ")?;
+    words::say_kind(rt, kind)?;
+    tool_print::labelled(rt, b", type ", run.number as u64)?;
+    tool_print::text(rt, b"\n")
 }

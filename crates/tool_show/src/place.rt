@@ -9,38 +9,40 @@ use page::slots;
 use page::slots::SlotRun;
 use refusals::Tested;
 use shelf::limits;
+use std::io;
 
 // Behind the head of every page for a shelf.
 const FIRST: u32 = 8;
 
 // On a page that acts.
-pub fn tell(shelf: &[u8], at: u32) {
-    say_byte(at);
+pub fn tell(rt: &impl Print, shelf: &[u8], at: u32) -> io::Result<()> {
+    say_byte(rt, at)?;
     if FIRST <= at {
         let k = at - FIRST;
-        say_element(shelf, k / 4);
-        tool_print::labelled(b", byte ", (k % 4) as u64);
+        say_element(rt, shelf, k / 4)?;
+        tool_print::labelled(rt, b", byte ", (k % 4) as u64)?;
     }
-    tool_print::text(b"\n");
+    tool_print::text(rt, b"\n")
 }
 
 // On a page of names.
-pub fn tell_on_names(shelf: &[u8], page: &[u8], at: u32) {
-    say_byte(at);
+pub fn tell_on_names(rt: &impl Print, shelf: &[u8], page: &[u8], at: u32) -> io::Result<()> {
+    say_byte(rt, at)?;
     if FIRST <= at {
         let spot = spot_of(page, at);
-        say_element(shelf, spot.descriptor as u32);
-        say_part(spot.byte);
+        say_element(rt, shelf, spot.descriptor as u32)?;
+        say_part(rt, spot.byte)?;
     }
-    tool_print::text(b"\n");
+    tool_print::text(rt, b"\n")
 }
 
 // Of the head only byte 1 can offend.
-fn say_byte(at: u32) {
-    tool_print::labelled(b"byte ", at as u64);
+fn say_byte(rt: &impl Print, at: u32) -> io::Result<()> {
+    tool_print::labelled(rt, b"byte ", at as u64)?;
     if at < FIRST {
-        tool_print::text(b": reserved bits of the page itself");
+        tool_print::text(rt, b": reserved bits of the page itself")?;
     }
+    Ok(())
 }
 
 // A byte of a descriptor, counted from its start.
@@ -86,27 +88,28 @@ fn declared(page: &[u8], start: u32) -> u32
 }
 
 // Byte k of a descriptor.
-fn say_part(k: u32) {
+fn say_part(rt: &impl Print, k: u32) -> io::Result<()> {
     if k < 2 {
-        tool_print::labelled(b", reserved byte ", k as u64);
+        tool_print::labelled(rt, b", reserved byte ", k as u64)
     } else if k < 4 {
-        tool_print::text(b", length of the name");
+        tool_print::text(rt, b", length of the name")
     } else {
-        tool_print::labelled(b", byte ", (k - 4) as u64);
-        tool_print::text(b" of the name");
+        tool_print::labelled(rt, b", byte ", (k - 4) as u64)?;
+        tool_print::text(rt, b" of the name")
     }
 }
 
 // After a colon, the element that slot i is for, if there are so many.
-fn say_element(shelf: &[u8], i: u32) {
+fn say_element(rt: &impl Print, shelf: &[u8], i: u32) -> io::Result<()> {
     let counted = page::testing::shelf_slots(shelf);
     let Tested::Slots(n) = counted else {
-        return;
+        return Ok(());
     };
     if i < n as u32 {
-        tool_print::text(b": ");
-        say_slot(run_of(shelf, i as u16), i as u16);
+        tool_print::text(rt, b": ")?;
+        say_slot(rt, run_of(shelf, i as u16), i as u16)?;
     }
+    Ok(())
 }
 
 // The type of slot i.
@@ -125,17 +128,17 @@ fn run_of(shelf: &[u8], i: u16) -> SlotRun
 }
 
 // An element is told by its number, which goes on over all types; an overall element by that of its type, which may occur twice.
-pub fn say_slot(run: SlotRun, i: u16)
+pub fn say_slot(rt: &impl Print, run: SlotRun, i: u16) -> io::Result<()>
     requires le_types { 1 ≤ run.types }
     requires i_lt_end { i < run.end }
     requires types_bound { run.types ≤ i + num run.overall }
 {
     let slot = slots::slot_in(run, i);
     let kind = slot.kind;
-    words::say_kind(kind);
+    words::say_kind(rt, kind)?;
     if slot.overall {
-        tool_print::labelled(b", overall element of type ", (run.types - 1) as u64);
+        tool_print::labelled(rt, b", overall element of type ", (run.types - 1) as u64)
     } else {
-        tool_print::labelled(b", element ", slot.first as u64);
+        tool_print::labelled(rt, b", element ", slot.first as u64)
     }
 }

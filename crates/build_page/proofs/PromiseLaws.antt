@@ -44,7 +44,7 @@ use Rattle.build_page.proofs.FirstSlots.{brought, needed_upto}
 use Rattle.build_page.proofs.BestPage.{only_one}
 use Rattle.build_page.proofs.PromiseKept.{no_page, best_page}
 
--- a well_formed_lem shelf takes a wish with a record for each element that its type may have
+-- a well-formed shelf takes a wish with a record for each element that its type may have
 pub wish_taken : (s w : List ℕ) → well_formed s ≡ true → length w ≡ 4 * elements_of s → all_below (may_be s w) (elements_of s) ≡ true → wish_tested s w ≡ answer.Accepted
 unfolding wish_tested
 wish_taken s w f l m =

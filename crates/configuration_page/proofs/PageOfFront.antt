@@ -1,4 +1,4 @@
--- A shelf and its front have the same configuration page; so every page that is accepted is one that some well_formed_lem shelf writes.
+-- A shelf and its front have the same configuration page; so every page that is accepted is one that some well-formed shelf writes.
 -- Assumes nothing.
 use mathlib.Core.Path.{◌≡◌, sym, ap, ap₂, ◌∙◌}
 use mathlib.Core.Bool.{true}
@@ -64,7 +64,7 @@ module _ (s : List ℕ) (h : front_formed s ≡ true) where
       ∙ ap (λ (x : List ℕ). fixed_part s (configuration_length s - 4) ++ x ++ joined (text_of s) n)
       (ap (joined (type_header c)) (types_same s) ∙ joined_same (type_header c) (type_header s) n same_header)
 
--- so what a well_formed_lem shelf couldn't have written is refused
+-- so what a well-formed shelf couldn't have written is refused
 pub some_writes : (p : List ℕ) → Bytes p → configuration_read p ≡ Accepted → (s : List ℕ) × (well_formed s ≡ true) × (configuration_page s ≡ p)
 some_writes p b a =
     let e = again p b a in

@@ -20,7 +20,7 @@ use Rattle.configuration_page.specs.Page.{header_place, type_header, text_of, te
 use Rattle.configuration_page.specs.Read.{types_on}
 use Rattle.configuration_page.specs.Configuration.{one_told, head_told, text_told, type_told, configuration_of}
 
--- of a well_formed_lem front, each text stands in its place and on its page
+-- of a well-formed front, each text stands in its place and on its page
 module _ (s : List ℕ) (w : front_formed s ≡ true) where
   pub text_there : (t : ℕ) → t < types_of s → text_place t + text_length s t ≤ type_place most_types
   text_there t h = omega (arith, few_types s w, short_text s w t h)

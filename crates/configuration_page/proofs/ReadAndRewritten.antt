@@ -1,4 +1,4 @@
--- What an accepted page tells is a well_formed_lem configuration, and its page is that page. Assumes nothing.
+-- What an accepted page tells is a well-formed configuration, and its page is that page. Assumes nothing.
 use mathlib.Core.Path.{◌≡◌, refl, sym, ap, ap₂, ◌∙◌}
 use mathlib.Core.Bool.{true}
 use mathlib.Core.List.{List, [], ◌∷◌, ◌++◌}

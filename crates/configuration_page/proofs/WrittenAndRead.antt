@@ -1,4 +1,4 @@
--- The page of a well_formed_lem front is accepted, and tells that front. Assumes nothing.
+-- The page of a well-formed front is accepted, and tells that front. Assumes nothing.
 use mathlib.Core.Path.{◌≡◌, refl, sym, ap, ap₂, ◌∙◌}
 use mathlib.Core.Bool.{true, false, not}
 use mathlib.Core.List.{List, [], ◌∷◌, ◌++◌, append-nil}
@@ -250,7 +250,7 @@ module _ (s : List ℕ) (w : front_formed s ≡ true) where
       → (configuration_read (configuration_page s) ≡ Accepted) × (configuration_of (configuration_page s) ≡ take (element_place 0) s)
   read_back l = (accepted, told_front ∙ bytes_there s 0 (element_place 0) l)
 
--- and so are a well_formed_lem shelf's, and a well_formed_lem configuration
+-- and so are a well-formed shelf's, and a well-formed configuration
 pub shelf_back : (s : List ℕ) → well_formed s ≡ true
     → (configuration_read (configuration_page s) ≡ Accepted) × (configuration_of (configuration_page s) ≡ take (element_place 0) s)
 shelf_back s w = read_back s (front_formed_lem s w) (omega (arith, length-formed s w))

@@ -25,7 +25,7 @@ unfoldable pub configuration_length : List ℕ → ℕ
 configuration_length s = text_start s (types_of s)
 
 -- the 48 bytes before the headers, n bytes following the first four: page code, zero, n; generation code; process 1 of 1, subenclosure 0,
--- number of types, length of what follows; identification. A well_formed_lem front has at most 336 bytes on its page, so two hold n
+-- number of types, length of what follows; identification. A well-formed front has at most 336 bytes on its page, so two hold n
 unfoldable pub fixed_part : List ℕ → ℕ → List ℕ
 fixed_part s n = ((0x01 ∷ 0 ∷ bytes 2 n) ++ four_at s 0 ++ (0x11 ∷ 0 ∷ types_of s ∷ 0x24 ∷ [])) ++ bytes_at s 4 36
 

@@ -32,7 +32,7 @@ text_place_on p t = row_start (header_place (types_on p)) (header_byte p 3) t
 unfoldable pub needed_length : List ℕ → ℕ
 needed_length p = text_place_on p (types_on p)
 
--- what a well_formed_lem shelf couldn't have written: b at the place k of the first 48 bytes
+-- what a well-formed shelf couldn't have written: b at the place k of the first 48 bytes
 unfoldable pub fixed_offends : ℕ → ℕ → Bool
 fixed_offends k b =
     pick (eqb k 1 || eqb k 9) (not (eqb b 0))

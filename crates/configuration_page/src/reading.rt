@@ -54,7 +54,7 @@ fn needed_length(page: &[u8]) -> u32
     bytes
 }
 
-// The first offending byte before the headers, or where these start. What a well_formed_lem shelf couldn't have written offends.
+// The first offending byte before the headers, or where these start. What a well-formed shelf couldn't have written offends.
 fn fixed_offence(page: &[u8]) -> u32
     requires { header_place 0 ≤ length page.now }
     ensures { result ≡ offence_below page.now (header_place 0) }

@@ -97,7 +97,7 @@ module _ (s p : List ℕ) where
       same : settings_after s p j ≡ settings_at s j
       same = unfold settings_after settled in pick_no _ _ _ e
 
-  -- a well_formed_lem shelf stays well formed
+  -- a well-formed shelf stays well formed
   module _ (w : well_formed s ≡ true) where
     made : (j : ℕ) → settings_formed (kind_at s j) (settings_at s j) ≡ true → settings_formed (kind_at s j) (settings_after s p j) ≡ true
     unfolding settings_after places_of

@@ -1,4 +1,4 @@
--- The Element Descriptor page of a well_formed_lem shelf is accepted, and hands back the shelf's names. Assumes nothing.
+-- The Element Descriptor page of a well-formed shelf is accepted, and hands back the shelf's names. Assumes nothing.
 use mathlib.Core.Path.{◌≡◌, refl, sym, ap, ◌∙◌}
 use mathlib.Core.Bool.{true, false, not}
 use mathlib.Core.List.{List, [], ◌++◌, append-nil}

@@ -185,7 +185,7 @@ rules_of Current = current
 abbrev pub code_of : Kind → ℕ
 code_of k = (rules_of k).code
 
--- the type that a served code names; any other code, which no well_formed_lem shelf has, reads as Current
+-- the type that a served code names; any other code, which no well-formed shelf has, reads as Current
 unfoldable pub kind_of : ℕ → Kind
 kind_of code =
     pick (eqb code (code_of Cooling)) Cooling

@@ -1,4 +1,4 @@
--- How many slots a page of a well_formed_lem shelf or configuration has. Assumes nothing.
+-- How many slots a page of a well-formed shelf or configuration has. Assumes nothing.
 use mathlib.Core.Path.{◌≡◌, sym, ◌∙◌}
 use mathlib.Core.Bool.{true}
 use mathlib.Core.List.{List}

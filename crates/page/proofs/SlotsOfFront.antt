@@ -1,4 +1,4 @@
--- The slots of a well_formed_lem shelf: each is in a type that is there, and the shelf's front has the same. Assumes nothing.
+-- The slots of a well-formed shelf: each is in a type that is there, and the shelf's front has the same. Assumes nothing.
 use mathlib.Core.Path.{◌≡◌, sym, ap, ap₂, ◌∙◌}
 use mathlib.Core.Bool.{true, false}
 use mathlib.Core.List.{List}

@@ -23,7 +23,7 @@ stopped_at n = shelf_a (replicate 36 0) (middle_off n) (replicate 128 0)
 it_is : (n : ℕ) (P : List ℕ → Type 0) → OfA (middle_off n) P → P (stopped_at n)
 it_is n P h = h (replicate 36 0) (replicate 128 0) (are_bytes (replicate 36 0) refl) refl (are_bytes (replicate 128 0) refl) refl
 
--- two well_formed_lem shelves with one status page, of which one stores SPEED 3 and the other SPEED 5
+-- two well-formed shelves with one status page, of which one stores SPEED 3 and the other SPEED 5
 pub one_status : (well_formed (stopped_at 3) ≡ true)
     × (well_formed (stopped_at 5) ≡ true)
     × (status_page (stopped_at 3) ≡ status_page (stopped_at 5))

@@ -39,7 +39,7 @@ pub control_exactly : (s p : List ℕ) {r : PageAnswer} {o : List ℕ} → Apply
 unfolding control_tests.valid
 control_exactly s p h e = rw h.1 (controlProofs.exactly s p (ap accepts (sym h.0 ∙ e)))
 
--- such a page is for a well_formed_lem shelf and leaves one; whatever is answered, the configuration stays
+-- such a page is for a well-formed shelf and leaves one; whatever is answered, the configuration stays
 pub control_formed : (s p : List ℕ) {r : PageAnswer} {o : List ℕ} → ApplyControl s p r o → r ≡ Accepted → (well_formed s ≡ true) × (well_formed o ≡ true)
 unfolding control_tests.valid
 control_formed s p h e = let w = valid_formed s p (ap accepts (sym h.0 ∙ e)) in (w, rw h.1 (controlChanges.stays_formed s p w))

@@ -29,7 +29,7 @@ use Rattle.collected_page.specs.Meant.{meant_tested, meant_after}
 use Rattle.build_page.specs.declared.built.Built.{Built}
 use Rattle.build_page.specs.Promise.{Promised}
 
--- accepted exactly if the block is a well_formed_lem shelf, else 1
+-- accepted exactly if the block is a well-formed shelf, else 1
 abbrev pub Check : List ℕ → Answer → Type 0
 Check shelf r = r ≡ shelf_tested shelf
 

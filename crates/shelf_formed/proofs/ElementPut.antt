@@ -19,7 +19,7 @@ use Rattle.shelf_formed.proofs.Opening.{formed_sizes}
 use Rattle.shelf_formed.proofs.FormedShelf.{few_types}
 use Rattle.shelf_formed.proofs.ElementTypes.{front_formed_lem}
 
--- a well_formed_lem shelf has just the bytes that its elements and names need
+-- a well-formed shelf has just the bytes that its elements and names need
 pub length-formed : (s : List ℕ) → well_formed s ≡ true → length s ≡ block_length (types_of s) (elements_of s)
 unfolding well_formed
 length-formed s h =

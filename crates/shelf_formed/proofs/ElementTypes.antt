@@ -1,4 +1,4 @@
--- The type of an element is the one among whose elements it stands, and a well_formed_lem shelf serves it. Assumes nothing.
+-- The type of an element is the one among whose elements it stands, and a well-formed shelf serves it. Assumes nothing.
 use mathlib.Core.Path.{◌≡◌}
 use mathlib.Core.Bool.{true, ◌&&◌}
 use mathlib.Core.List.{List}
@@ -37,7 +37,7 @@ pub typed : (s : List ℕ) (t j : ℕ) → t < most_types → before s t ≤ j �
 unfolding type_of
 typed s t j l a b = part_is (before s) j most_types (before_up s) t l a b
 
--- the front of a well_formed_lem shelf is formed
+-- the front of a well-formed shelf is formed
 pub front_formed_lem : (s : List ℕ) → well_formed s ≡ true → front_formed s ≡ true
 unfolding well_formed
 front_formed_lem s w =

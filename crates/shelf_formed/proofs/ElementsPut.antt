@@ -186,7 +186,7 @@ module _ (at : ℕ → ℕ) (o : ℕ) (place : (j : ℕ) → at j ≡ element_pl
           (λ (m : (k : ℕ) → k < n → Outside q (at k)). inl (either (λ (x : List ℕ). get_or x q 0 ≡ get_or s q 0) refl (λ e. byte_kept at f s n q m)))
           (in_row at n q)
 
-      -- a well_formed_lem shelf stays so, if settings and thresholds are such as the types may have
+      -- a well-formed shelf stays so, if settings and thresholds are such as the types may have
       pub formed_same : well_formed s ≡ true
           → ((j : ℕ) → j < elements_of s
           → (settings_formed (kind_at s j) (settings_at after j) ≡ true)

@@ -1,4 +1,4 @@
--- What a well_formed_lem shelf has, part by part: its front, and each element. Assumes nothing.
+-- What a well-formed shelf has, part by part: its front, and each element. Assumes nothing.
 use mathlib.Core.Path.{◌≡◌, sym, ◌∙◌}
 use mathlib.Core.Bool.{true, ◌&&◌}
 use mathlib.Core.List.{List}
@@ -75,7 +75,7 @@ module _ (s : List ℕ) (w : front_formed s ≡ true) where
       eqb-true (get_or s (type_place t + i) 0) 0
       (below_at (type_byte_empty s t) type_size (sym (pick_no _ _ _ (le-ltb t (types_of s) h)) ∙ slot t l) i m)
 
--- what a well_formed_lem shelf has of element j
+-- what a well-formed shelf has of element j
 pub in_element : (s : List ℕ) → well_formed s ≡ true → (j : ℕ) → j < elements_of s
     → (settings_formed (kind_at s j) (settings_at s j) ≡ true)
     × (had (kind_at s j) (thresholds_at s j) ≡ true)

@@ -95,7 +95,7 @@ module _ (s : List ℕ) where
   unfolding front_formed
   front_same = ap₂ ◌&&◌ (ap₂ ◌&&◌ head_same types_formed_same) (ap (λ (n : ℕ). leb n most_elements) elements_same)
 
-  -- the front of a well_formed_lem shelf is a configuration
+  -- the front of a well-formed shelf is a configuration
   pub configuration_of_lem : well_formed s ≡ true → configuration_formed (front s) ≡ true
   unfolding configuration_formed
   configuration_of_lem w =

@@ -1,4 +1,4 @@
--- Every well_formed_lem configuration is the front of a well_formed_lem shelf. Assumes nothing.
+-- Every well-formed configuration is the front of a well-formed shelf. Assumes nothing.
 use mathlib.Core.Path.{◌≡◌, sym, ap, ap₂, ◌∙◌}
 use mathlib.Core.Bool.{true}
 use mathlib.Core.List.{List, ◌++◌, append_assoc}

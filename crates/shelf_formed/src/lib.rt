@@ -1,4 +1,4 @@
-// Whether a block is a well_formed_lem shelf, or the front of one a configuration.
+// Whether a block is a well-formed shelf, or the front of one a configuration.
 #![tactic(auto)]
 
 ghost use Rattle.std.specs.Prelude.{◌≡◌, true, ◌≤◌, length};
@@ -10,7 +10,7 @@ ghost use Rattle.shelf_formed.specs.Formed.{head_formed, text_byte_formed, text_
 use element::types::Kind;
 use shelf::{elements, limits, types};
 
-// How many types and elements a well_formed_lem shelf has.
+// How many types and elements a well-formed shelf has.
 #[derive(Clone, Copy)]
 pub struct Sizes {
     pub types: u16,

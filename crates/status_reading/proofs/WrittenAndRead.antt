@@ -1,4 +1,4 @@
--- The status page of a well_formed_lem shelf is accepted under the shelf's configuration, and shows what the shelf shows. Assumes nothing.
+-- The status page of a well-formed shelf is accepted under the shelf's configuration, and shows what the shelf shows. Assumes nothing.
 use mathlib.Core.Path.{◌≡◌, refl, sym, ap, ◌∙◌}
 use mathlib.Core.Bool.{Bool, true, false, not}
 use mathlib.Core.List.{List, [], ◌∷◌, ◌++◌}

@@ -78,7 +78,7 @@ module _ (s p : List ℕ) where
   unfolding thresholds_after places_of thresholds_at
   same j a b = taken_none (thresholds_at s j) b a
 
-  -- a well_formed_lem shelf stays well formed
+  -- a well-formed shelf stays well formed
   module _ (w : well_formed s ≡ true) where
     thresholds : (j : ℕ) → j < n
         → (had (kind_at s j) (thresholds_at (after s p) j) ≡ true) × (ordered (kind_at s j) (thresholds_at (after s p) j) ≡ true)

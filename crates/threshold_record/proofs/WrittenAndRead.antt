@@ -1,4 +1,4 @@
--- The Threshold In page of a well_formed_lem shelf is accepted under the shelf's configuration, and hands back the shelf's thresholds. Assumes nothing.
+-- The Threshold In page of a well-formed shelf is accepted under the shelf's configuration, and hands back the shelf's thresholds. Assumes nothing.
 use mathlib.Core.Path.{◌≡◌, refl, sym, ap, ◌∙◌}
 use mathlib.Core.Bool.{true, false}
 use mathlib.Core.List.{List, [], ◌∷◌, ◌++◌}

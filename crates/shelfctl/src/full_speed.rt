@@ -1,29 +1,31 @@
 // The built-in shelf, brought to full speed by the page that is built for it.
 use crate::{applying, building, pages};
+use std::io;
 use tool_input::arguments::Page;
 use tool_shelf::{builtin, changes, settings};
 
 // What is wanted and the page for it, between the status before and after; then the fans in words, and which bytes of
 // the block changed.
-pub fn show() {
+pub fn show(rt: &impl Print) -> io::Result<()> {
     let mut shelf = builtin::shelf();
     let before = shelf;
-    pages::tell_headed(b"status page before", Page::Status, &shelf);
-    bring(&mut shelf);
-    pages::tell_headed(b"status page after", Page::Status, &shelf);
-    tool_show::first_type(&shelf);
-    changes::tell(&before, &shelf);
+    pages::tell_headed(rt, b"status page before", Page::Status, &shelf)?;
+    bring(rt, &mut shelf)?;
+    pages::tell_headed(rt, b"status page after", Page::Status, &shelf)?;
+    tool_show::first_type(rt, &shelf)?;
+    changes::tell(rt, &before, &shelf)
 }
 
-fn bring(shelf: &mut [u8]) {
+fn bring(rt: &impl Print, shelf: &mut [u8]) -> io::Result<()> {
     let wanted = wanted_list(shelf);
     let n = builtin::WANTED_LENGTH as u32;
-    pages::say_head(b"wanted settings: element 0 to full speed", n);
-    tool_print::hex_lines(&wanted, n);
+    pages::say_head(rt, b"wanted settings: element 0 to full speed", n)?;
+    tool_print::hex_lines(rt, &wanted, n)?;
     let mut page = [0u8; builtin::CONTROL_LENGTH];
-    building::tell_into(shelf, &wanted, &mut page);
+    building::tell_into(rt, shelf, &wanted, &mut page)?;
     let answer = ses::apply_control(shelf, &page);
-    applying::tell_answer(shelf, answer);
+    applying::tell_answer(rt, shelf, answer)?;
+    Ok(())
 }
 
 // The stored settings, but for element 0: ON and SPEED 7.

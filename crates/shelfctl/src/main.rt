@@ -12,41 +12,48 @@ mod naming;
 mod pages;
 mod pieces;
 
+use std::io;
+use std::rt::{Env, Files};
 use tool_input::arguments::{Act, Command, Given};
 use tool_input::{arguments, files};
 use tool_shelf::{builtin, settings};
 
-fn main() {
-    let first = arguments::first_given();
+fn main(rt: HostRuntime) -> io::Result<()> {
+    let err = rt.stderr();
+    let first = arguments::first_given(&rt);
     match first {
-        Given::Nothing => show_builtin(),
-        Given::Command(command) => run(command),
-        Given::Unknown => arguments::say_wrong(b"unknown command\n"),
+        Given::Nothing => show_builtin(&rt),
+        Given::Command(command) => run(&rt, &err, command),
+        Given::Unknown => arguments::say_wrong(&err, b"unknown command\n"),
     }
 }
 
-fn show_builtin() {
+fn show_builtin(rt: &impl Print) -> io::Result<()> {
     let shelf = builtin::shelf();
-    tell_contents(&shelf);
-    pages::tell_all(&shelf);
-    full_speed::show();
+    tell_contents(rt, &shelf)?;
+    pages::tell_all(rt, &shelf)?;
+    full_speed::show(rt)
 }
 
-fn run(command: Command) {
+fn run<R: Env + Files + Print>(rt: &R, err: &impl Print, command: Command) -> io::Result<()> {
     let place = arguments::file_place(command);
-    let given = os::arg_count();
+    let given = arguments::count(rt);
     if given == place as usize {
-        without_file(command);
+        without_file(rt, err, command)
     } else if given == place as usize + 1 {
-        on_named_file(command, place);
+        on_named_file(rt, err, command, place)
     } else {
-        arguments::say_wrong_number();
+        arguments::say_wrong_number(err)
     }
 }
 
-fn without_file(command: Command) {
+fn without_file<R: Env + Files + Print>(
+    rt: &R,
+    err: &impl Print,
+    command: Command,
+) -> io::Result<()> {
     match command {
-        Command::Show | Command::Check => arguments::say_wrong_number(),
+        Command::Show | Command::Check => arguments::say_wrong_number(err),
         Command::Page(_)
         | Command::Settings
         | Command::Build
@@ -56,81 +63,103 @@ fn without_file(command: Command) {
         | Command::Find
         | Command::Set(_) => {
             let mut shelf = builtin::shelf();
-            tell(command, &mut shelf);
+            tell(rt, err, command, &mut shelf)
         }
     }
 }
 
-fn on_named_file(command: Command, place: u8) {
+fn on_named_file<R: Env + Files + Print>(
+    rt: &R,
+    err: &impl Print,
+    command: Command,
+    place: u8,
+) -> io::Result<()> {
     let mut block = [0u8; files::BLOCK_ROOM];
-    let loaded = files::load(place, b"FILE", &mut block);
+    let loaded = files::load(rt, err, place, b"FILE", &mut block)?;
     if loaded.is_done {
         let n = loaded.bytes;
-        tell(command, &mut block[..n]);
+        tell(rt, err, command, &mut block[..n])?;
     }
+    Ok(())
 }
 
-fn tell(command: Command, shelf: &mut [u8]) {
+fn tell<R: Env + Files + Print>(
+    rt: &R,
+    err: &impl Print,
+    command: Command,
+    shelf: &mut [u8],
+) -> io::Result<()> {
     match command {
-        Command::Show => tell_contents(shelf),
+        Command::Show => tell_contents(rt, shelf),
         Command::Check => {
-            tell_checked(shelf);
+            tell_checked(rt, shelf)?;
+            Ok(())
         }
-        Command::Page(page) => pages::tell(page, shelf),
-        Command::Settings => tell_settings(shelf),
-        Command::Build => build(shelf),
-        Command::Apply(act) => apply(act, shelf),
-        Command::Pieces => pieces::tell(shelf),
-        Command::Read => read(shelf),
-        Command::Find => naming::tell_found(shelf),
-        Command::Set(named) => naming::tell_set(named, shelf),
+        Command::Page(page) => pages::tell(rt, page, shelf),
+        Command::Settings => tell_settings(rt, shelf),
+        Command::Build => build(rt, err, shelf),
+        Command::Apply(act) => apply(rt, err, act, shelf),
+        Command::Pieces => pieces::tell(rt, err, shelf),
+        Command::Read => read(rt, err, shelf),
+        Command::Find => naming::tell_found(rt, shelf),
+        Command::Set(named) => naming::tell_set(rt, err, named, shelf),
     }
 }
 
-fn tell_contents(shelf: &[u8]) {
-    if tell_checked(shelf) {
-        tool_show::contents(shelf);
+fn tell_contents(rt: &impl Print, shelf: &[u8]) -> io::Result<()> {
+    if tell_checked(rt, shelf)? {
+        tool_show::contents(rt, shelf)?;
     }
+    Ok(())
 }
 
 // Answers whether the block is a shelf, after saying so.
-fn tell_checked(shelf: &[u8]) -> bool {
+fn tell_checked(rt: &impl Print, shelf: &[u8]) -> io::Result<bool> {
     let answer = ses::check(shelf);
-    answer::tell(answer, b"shelf: well formed\n")
+    answer::tell(rt, answer, b"shelf: well formed\n")
 }
 
 // In the form of a wanted list, or the refusal.
-fn tell_settings(shelf: &[u8]) {
+fn tell_settings(rt: &impl Print, shelf: &[u8]) -> io::Result<()> {
     let answer = ses::check(shelf);
-    if answer::tell(answer, b"") {
-        settings::show(shelf);
+    if answer::tell(rt, answer, b"")? {
+        settings::show(rt, shelf)?;
     }
+    Ok(())
 }
 
-fn build(shelf: &[u8]) {
+fn build<R: Env + Files + Print>(rt: &R, err: &impl Print, shelf: &[u8]) -> io::Result<()> {
     let mut wanted = [0u8; files::WANTED_ROOM];
-    let loaded = files::load(arguments::INPUT_PLACE, b"WANTED", &mut wanted);
+    let loaded = files::load(rt, err, arguments::INPUT_PLACE, b"WANTED", &mut wanted)?;
     if loaded.is_done {
         let n = loaded.bytes;
-        building::tell(shelf, &wanted[..n]);
+        building::tell(rt, shelf, &wanted[..n])?;
     }
+    Ok(())
 }
 
-fn apply(act: Act, shelf: &mut [u8]) {
+fn apply<R: Env + Files + Print>(
+    rt: &R,
+    err: &impl Print,
+    act: Act,
+    shelf: &mut [u8],
+) -> io::Result<()> {
     let mut page = [0u8; files::PAGE_ROOM];
-    let loaded = files::load(arguments::INPUT_PLACE, b"PAGE", &mut page);
+    let loaded = files::load(rt, err, arguments::INPUT_PLACE, b"PAGE", &mut page)?;
     if loaded.is_done {
         let n = loaded.bytes;
         let answer = applying::apply(act, shelf, &page[..n]);
-        applying::tell(shelf, answer);
+        applying::tell(rt, shelf, answer)?;
     }
+    Ok(())
 }
 
-fn read(shelf: &[u8]) {
+fn read<R: Env + Files + Print>(rt: &R, err: &impl Print, shelf: &[u8]) -> io::Result<()> {
     let mut page = [0u8; files::PAGE_ROOM];
-    let loaded = files::load(arguments::INPUT_PLACE, b"PAGE", &mut page);
+    let loaded = files::load(rt, err, arguments::INPUT_PLACE, b"PAGE", &mut page)?;
     if loaded.is_done {
         let n = loaded.bytes;
-        naming::tell_page(shelf, &page[..n]);
+        naming::tell_page(rt, shelf, &page[..n])?;
     }
+    Ok(())
 }

@@ -3,26 +3,29 @@ use crate::answer;
 use names::finding::Found;
 use refusals::{Answer, PageAnswer, PageRefusal};
 use shelf::limits;
+use std::io;
+use std::rt::Env;
 use tool_input::arguments;
 use tool_input::arguments::{Named, Told};
 
 // Each name that the page tells, or why it is refused for this shelf.
-pub fn tell_page(shelf: &[u8], page: &[u8]) {
+pub fn tell_page(rt: &impl Print, shelf: &[u8], page: &[u8]) -> io::Result<()> {
     let checked = ses::check(shelf);
-    if answer::tell(checked, b"") {
-        tell_read(shelf, page);
+    if answer::tell(rt, checked, b"")? {
+        tell_read(rt, shelf, page)?;
     }
+    Ok(())
 }
 
-fn tell_read(shelf: &[u8], page: &[u8]) {
+fn tell_read(rt: &impl Print, shelf: &[u8], page: &[u8]) -> io::Result<()> {
     let mut record = [0u8; descriptor_record::reading::LENGTH];
     let read = ses::read_descriptors(configuration_of(shelf), page, &mut record);
     match read {
         PageAnswer::Accepted => {
-            tool_print::text(b"accepted\n");
-            tool_show::named::tell_record(shelf, &record);
+            tool_print::text(rt, b"accepted\n")?;
+            tool_show::named::tell_record(rt, shelf, &record)
         }
-        PageAnswer::Refused(told) => tell_refused(shelf, page, told),
+        PageAnswer::Refused(told) => tell_refused(rt, shelf, page, told),
     }
 }
 
@@ -37,40 +40,46 @@ fn configuration_of(shelf: &[u8]) -> &[u8] {
 }
 
 // Why, and what stands at the byte that offends. Offset 0 is that of no such byte.
-fn tell_refused(shelf: &[u8], page: &[u8], told: PageRefusal) {
+fn tell_refused(rt: &impl Print, shelf: &[u8], page: &[u8], told: PageRefusal) -> io::Result<()> {
     let refusal = told.refusal;
-    tool_print::refusal::tell(refusal);
+    tool_print::refusal::tell(rt, refusal)?;
     let at = told.offset;
     if at != 0 {
-        tool_show::place::tell_on_names(shelf, page, at);
+        tool_show::place::tell_on_names(rt, shelf, page, at)?;
     }
+    Ok(())
 }
 
 // The first element that has the name, with its type.
-pub fn tell_found(shelf: &[u8]) {
+pub fn tell_found<R: Env + Print>(rt: &R, shelf: &[u8]) -> io::Result<()> {
     let mut text = [0u8; arguments::NAME_ROOM];
-    let n = arguments::name(arguments::INPUT_PLACE, &mut text);
+    let n = arguments::name(rt, arguments::INPUT_PLACE, &mut text);
     let found = ses::find_name(shelf, &text[..n]);
     match found {
-        Found::Element(j) => tool_show::named::tell_element(shelf, j),
-        Found::Nothing => tool_print::text(b"no element has this name\n"),
-        Found::Refused(r) => tool_print::refusal::tell(r),
+        Found::Element(j) => tool_show::named::tell_element(rt, shelf, j),
+        Found::Nothing => tool_print::text(rt, b"no element has this name\n"),
+        Found::Refused(r) => tool_print::refusal::tell(rt, r),
     }
 }
 
 // The answer and, if the name is taken, what the shelf holds afterwards.
-pub fn tell_set(named: Named, shelf: &mut [u8]) {
-    let given = arguments::number(arguments::INPUT_PLACE);
+pub fn tell_set<R: Env + Print>(
+    rt: &R,
+    err: &impl Print,
+    named: Named,
+    shelf: &mut [u8],
+) -> io::Result<()> {
+    let given = arguments::number(rt, arguments::INPUT_PLACE);
     let Told::Number(i) = given else {
-        arguments::say_no_number(named);
-        return;
+        return arguments::say_no_number(err, named);
     };
     let mut text = [0u8; arguments::NAME_ROOM];
-    let n = arguments::name(arguments::NAME_PLACE, &mut text);
+    let n = arguments::name(rt, arguments::NAME_PLACE, &mut text);
     let set = set(named, shelf, i, &text[..n]);
-    if answer::tell(set, b"accepted\n") {
-        tool_show::contents(shelf);
+    if answer::tell(rt, set, b"accepted\n")? {
+        tool_show::contents(rt, shelf)?;
     }
+    Ok(())
 }
 
 fn set(named: Named, shelf: &mut [u8], i: u32, text: &[u8]) -> Answer {

@@ -3,31 +3,43 @@ ghost use Rattle.std.specs.Prelude.{◌<◌, ◌≤◌};
 
 use crate::applying;
 use refusals::PageAnswer;
+use std::io;
+use std::rt::{Env, Files};
 use tool_input::{arguments, files};
 
 // The answer to the page, as to a whole one; or what is wrong with SIZE or CODE. Where no number is told, one stands that is not allowed.
-pub fn tell(shelf: &mut [u8]) {
-    let size = arguments::number_or(arguments::SIZE_PLACE, 0);
-    let code = arguments::number_or(arguments::CODE_PLACE, 256);
+pub fn tell<R: Env + Files + Print>(rt: &R, err: &impl Print, shelf: &mut [u8]) -> io::Result<()> {
+    let size = arguments::number_or(rt, arguments::SIZE_PLACE, 0);
+    let code = arguments::number_or(rt, arguments::CODE_PLACE, 256);
     if size < 1 {
-        arguments::say_wrong(b"SIZE is not a number from 1 on, of up to 20 digits\n");
+        arguments::say_wrong(err, b"SIZE is not a number from 1 on, of up to 20 digits\n")
     } else if 255 < code {
-        arguments::say_wrong(b"CODE is not a number from 0 to 255, of up to 20 digits\n");
+        arguments::say_wrong(
+            err,
+            b"CODE is not a number from 0 to 255, of up to 20 digits\n",
+        )
     } else {
-        tell_answer(shelf, size, code as u8);
+        tell_answer(rt, err, shelf, size, code as u8)
     }
 }
 
-fn tell_answer(shelf: &mut [u8], size: u32, code: u8)
+fn tell_answer<R: Env + Files + Print>(
+    rt: &R,
+    err: &impl Print,
+    shelf: &mut [u8],
+    size: u32,
+    code: u8,
+) -> io::Result<()>
     requires { 1 ≤ size }
 {
     let mut page = [0u8; files::PAGE_ROOM];
-    let loaded = files::load(arguments::PAGE_PLACE, b"PAGE", &mut page);
+    let loaded = files::load(rt, err, arguments::PAGE_PLACE, b"PAGE", &mut page)?;
     if loaded.is_done {
         let n = loaded.bytes;
         let answer = apply(shelf, &page[..n], size, code);
-        applying::tell(shelf, answer);
+        applying::tell(rt, shelf, answer)?;
     }
+    Ok(())
 }
 
 // The page is collected, and acts at its end.

@@ -3,7 +3,7 @@
 // A buffer has one byte more than the longest shelf or wanted list, or than the most that a page's length field can tell.
 // So a longer file fills it, and is refused by that length as it would be by its own: as a shelf, 1; as a page, 4, and
 // as a wanted list, 9, unless the shelf or a page's byte 0 is refused before. What follows in the file changes no answer.
-ghost use Rattle.std.specs.Prelude.{◌≡◌, IfOk};
+ghost use Rattle.std.specs.Prelude.{◌≡◌, IfOk, length};
 ghost use Rattle.tool_input.specs.Counts.{IsPrefixLen};
 
 use crate::arguments;
@@ -59,7 +59,8 @@ fn say_why(err: &impl Print, why: io::Error) -> io::Result<()> {
     }
 }
 
-// What keeps the file from being read goes to standard error with the usage, under the argument's name if it is too long for a path.
+// What keeps the file from being read goes to standard error with the usage, under the argument's name if it is too long for a path. The one
+// error is that this could not be written; the buffer then keeps whatever was read.
 pub fn load<R: Env + Files>(
     rt: &R,
     err: &impl Print,
@@ -67,7 +68,8 @@ pub fn load<R: Env + Files>(
     name: &[u8],
     buffer: &mut [u8],
 ) -> io::Result<Loaded>
-    ensures { IfOk result (λ loaded. IsPrefixLen loaded.bytes buffer.new) }
+    ensures prefix { IfOk result (λ loaded. IsPrefixLen loaded.bytes buffer.new) }
+    ensures room { length buffer.new ≡ length buffer.old }
 {
     let mut path = [0u8; PATH_ROOM];
     match rt.arg(argument as usize, &mut path) {
@@ -89,7 +91,8 @@ fn load_named<R: Files>(
     path: &[u8],
     buffer: &mut [u8],
 ) -> io::Result<Loaded>
-    ensures { IfOk result (λ loaded. IsPrefixLen loaded.bytes buffer.new) }
+    ensures prefix { IfOk result (λ loaded. IsPrefixLen loaded.bytes buffer.new) }
+    ensures room { length buffer.new ≡ length buffer.old }
 {
     match open(rt, path) {
         Ok(mut file) => load_open(err, &mut file, path, buffer),
@@ -114,7 +117,8 @@ fn load_open(
     path: &[u8],
     buffer: &mut [u8],
 ) -> io::Result<Loaded>
-    ensures { IfOk result (λ loaded. IsPrefixLen loaded.bytes buffer.new) }
+    ensures prefix { IfOk result (λ loaded. IsPrefixLen loaded.bytes buffer.new) }
+    ensures room { length buffer.new ≡ length buffer.old }
 {
     match read_full(file, buffer) {
         Ok(bytes) => Ok(Loaded {
@@ -127,7 +131,8 @@ fn load_open(
 
 // Reads until the buffer is full or the file ends. A full buffer does not show whether what follows can be read: one more read does.
 fn read_full(file: &mut impl Read, buffer: &mut [u8]) -> io::Result<usize>
-    ensures { IfOk result (λ n. IsPrefixLen n buffer.new) }
+    ensures prefix { IfOk result (λ n. IsPrefixLen n buffer.new) }
+    ensures room { length buffer.new ≡ length buffer.old }
 {
     let mut done = 0;
     while done < buffer.len() {

@@ -1,30 +1,13 @@
 -- Four bytes put into a list: what is read back, and what stays. Assumes nothing.
 use mathlib.Core.Path.{◌≡◌, sym, ap, ◌∙◌}
 use mathlib.Core.List.{List, [], ◌∷◌}
-use Prim.Native.Nat.{ℕ, suc, ◌+◌, ◌≤◌}
+use Prim.Native.Nat.{ℕ, ◌+◌, ◌≤◌}
 use native.Mathlib.Nat.{zero-add}
-use native.Mathlib.Omega.{arith}
-use lib.ListN.{length, get_or, set}
-use lib.Seq.{sets, sets-eq}
-use borrow.Author.Tests.{le-leb}
+use lib.ListN.{length, get_or}
 use Rattle.bits.specs.Places.{four_at, put_four}
 use Rattle.bits.specs.Rows.{put_bytes}
-use Rattle.bits.proofs.Logic.{pick_yes}
 use Rattle.bits.proofs.Rows.{four_bytes, four_same}
 use Rattle.bits.proofs.BytesPut.{Beside, length-put_bytes, bytes_other, bytes_put_lem, bytes_again_lem}
-
--- as the code stores them
-pub sets_put : (s : List ℕ) (k a b c d : ℕ) → k + 4 ≤ length s
-    → set (set (set (set s k a) (k + 1) b) (k + 2) c) (k + 3) d ≡ put_four s k (a ∷ b ∷ c ∷ d ∷ [])
-unfolding put_four put_bytes
-sets_put s k a b c d h = as_sets ∙ sets-eq (a ∷ b ∷ c ∷ d ∷ []) s k h ∙ sym (pick_yes _ _ _ (le-leb (k + 4) (length s) h))
-  where
-    as_sets : set (set (set (set s k a) (k + 1) b) (k + 2) c) (k + 3) d ≡ sets s k (a ∷ b ∷ c ∷ d ∷ [])
-    as_sets =
-        let e1 : k + 1 ≡ suc k = omega arith in
-        let e2 : k + 2 ≡ suc (suc k) = omega arith in
-        let e3 : k + 3 ≡ suc (suc (suc k)) = omega arith in
-        rw (e1, e2, e3)
 
 pub length_put : (s : List ℕ) (k : ℕ) (f : List ℕ) → length (put_four s k f) ≡ length s
 unfolding put_four

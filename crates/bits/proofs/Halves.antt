@@ -2,12 +2,12 @@
 use mathlib.Core.Path.{◌≡◌, refl, ap, ◌∙◌}
 use mathlib.Core.Bool.{Bool, true, false}
 use mathlib.Core.List.{List}
-use Prim.Native.Nat.{ℕ, ◌*◌, ◌/◌, ◌%◌, ◌^◌, ◌<◌, ◌≤◌}
+use Prim.Native.Nat.{ℕ, ◌/◌, ◌%◌, ◌^◌, ◌<◌, ◌≤◌}
 use native.Mathlib.Omega.{arith}
 use lib.Dec.{eqb}
-use lib.Bits.{bit_and, bit_or, and_mask, or_shifted}
+use lib.Bits.{bit_and, and_mask}
 use borrow.Author.Tests.{eqb-true}
-use mir.Val.{Fits, bool_byte}
+use mir.Val.{Fits}
 use mir.Syntax.{w8}
 use Rattle.bits.specs.Choice.{all_below}
 use Rattle.bits.specs.Bits.{num, bit, only, nibble, join}
@@ -23,33 +23,6 @@ and1 n = and_mask n 1
 
 pub and15 : (n : ℕ) → bit_and n 15 ≡ n % 16
 and15 n = and_mask n 4
-
-pub or4 : (a b c d : Bool)
-    → bit_or (bit_or (bit_or (bool_byte a * 8 % 256) (bool_byte b * 4 % 256)) (bool_byte c * 2 % 256)) (bool_byte d) ≡ nibble a b c d
-or4 true true true true = refl
-or4 true true true false = refl
-or4 true true false true = refl
-or4 true true false false = refl
-or4 true false true true = refl
-or4 true false true false = refl
-or4 true false false true = refl
-or4 true false false false = refl
-or4 false true true true = refl
-or4 false true true false = refl
-or4 false true false true = refl
-or4 false true false false = refl
-or4 false false true true = refl
-or4 false false true false = refl
-or4 false false false true = refl
-or4 false false false false = refl
-
-pub or_halves : (h l : ℕ) → bit_or (bit_and h 15 * 16 % 256) (bit_and l 15) ≡ join h l
-or_halves h l =
-    rw (and15 h, and15 l)
-    (ap (λ x. bit_or x (l % 16)) small ∙ or_shifted (h % 16) 4 (l % 16) (omega arith) ∙ omega arith)
-  where
-    small : h % 16 * 16 % 256 ≡ h % 16 * 16
-    small = omega arith
 
 -- the flags of half a byte are its bits
 pub nibble_bits : (a b c d : Bool) → let n : ℕ = nibble a b c d in (bit 3 n ≡ a) × (bit 2 n ≡ b) × (bit 1 n ≡ c) × (bit 0 n ≡ d)

@@ -14,3 +14,4 @@ pub mod RowsPut
 pub mod FoursPut
 pub mod Each
 pub mod Masks
+pub mod Found

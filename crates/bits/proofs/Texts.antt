@@ -1,16 +1,22 @@
 -- How far bytes are printable, and whether they are those of a text: what the two loops say, and what follows. Assumes nothing.
 use mathlib.Core.Path.{◌≡◌, sym, ap, ◌∙◌}
 use mathlib.Core.Bool.{Bool, true, false, not}
-use mathlib.Core.List.{List}
+use mathlib.Core.List.{List, [], ◌++◌}
 use mathlib.Core.Logic.{⊎_elim}
 use Prim.Native.Nat.{ℕ, ◌+◌, ◌<◌, ◌≤◌}
-use native.Mathlib.Nat.{eq-or-lt_of_le}
-use lib.ListN.{get_or}
-use borrow.Author.Tests.{eqb-true, eq-eqb, ne_eqb, not-true, not-false}
+use native.Mathlib.Nat.{eq-or-lt_of_le, zero-add}
+use native.Mathlib.Omega.{arith}
+use lib.ListN.{length, get_or, take, drop}
+use Rattle.std.specs.Str.{bytes_eq}
+use Rattle.std.proofs.lemmas.Bool.Decides.{same_from_decides}
+use Rattle.std.proofs.lemmas.Slice.Eq.{bytes_eq-Decides}
+use borrow.Author.Tests.{eqb-true, eq-eqb, not-true, not-false}
 use Rattle.bits.specs.Bits.{printable}
 use Rattle.bits.specs.Choice.{all_below, first_below}
+use Rattle.bits.specs.Rows.{bytes_at}
 use Rattle.bits.specs.Texts.{unprintable, printable_run, same_byte, same_bytes}
-use Rattle.bits.proofs.Logic.{fails, below_at, below_all, below_fails, below_next, first_at, first_none, first_bound, first_passes, first_fails, first_same}
+use Rattle.bits.proofs.Rows.{bytes_there, bytes_same, bytes_get}
+use Rattle.bits.proofs.Logic.{fails, below_at, below_all, below_next, first_at, first_none, first_bound, first_passes, first_fails, first_same}
 
 module _ (s : List ℕ) (k n : ℕ) where
   -- the walk stopped at byte i, which is b
@@ -61,18 +67,7 @@ run_is s k n m l h e = ⊎_elim whole part (eq-or-lt_of_le l)
     part b = first_at (unprintable s k) m n b none (ap not (e b))
 
 module _ (s : List ℕ) (k : ℕ) (x : List ℕ) where
-  pub same_not : (n i : ℕ) {a b : ℕ} → i < n → a ≡ get_or s (k + i) 0 → b ≡ get_or x i 0 → (a ≡ b → ⊥) → false ≡ same_bytes s k x n
-  unfolding same_bytes
-  same_not n i l p q h = sym (below_fails (same_byte s k x) n i l (ne_eqb _ _ (λ e. h (p ∙ e ∙ sym q))))
-
-  pub same_next : (i : ℕ) {a b : ℕ} → all_below (same_byte s k x) i ≡ true → a ≡ get_or s (k + i) 0 → b ≡ get_or x i 0 → a ≡ b → all_below (same_byte s k x) (i + 1) ≡ true
-  same_next i t p q h = below_next (same_byte s k x) i t (eq-eqb _ _ (sym p ∙ h ∙ q))
-
-  pub same_all : (n : ℕ) → all_below (same_byte s k x) n ≡ true → true ≡ same_bytes s k x n
-  unfolding same_bytes
-  same_all n t = sym t
-
-  -- and what that says of each byte
+  -- what that says of each byte
   pub same_at : (n i : ℕ) → same_bytes s k x n ≡ true → i < n → get_or s (k + i) 0 ≡ get_or x i 0
   unfolding same_bytes
   same_at n i t l = eqb-true _ _ (below_at (same_byte s k x) n t i l)
@@ -80,3 +75,16 @@ module _ (s : List ℕ) (k : ℕ) (x : List ℕ) where
   pub same_if : (n : ℕ) → ((i : ℕ) → i < n → get_or s (k + i) 0 ≡ get_or x i 0) → same_bytes s k x n ≡ true
   unfolding same_bytes
   same_if n h = below_all (same_byte s k x) n (λ i l. eq-eqb _ _ (h i l))
+
+  -- as the library compares two slices
+  pub same_slices : (n : ℕ) → k + n ≤ length s → n ≤ length x → bytes_eq (take n (drop k s)) (take n x) ≡ same_bytes s k x n
+  same_slices n h l = same_from_decides _ _ (bytes_eq-Decides (take n (drop k s)) (take n x)) (there, back)
+    where
+      front : bytes_at x 0 n ≡ take n x
+      front = bytes_there x 0 n (omega arith)
+
+      there : same_bytes s k x n ≡ true → take n (drop k s) ≡ take n x
+      there t = sym (bytes_there s k n h) ∙ bytes_same s x k 0 n (λ i b. same_at n i t b ∙ ap (λ (m : ℕ). get_or x m 0) (sym (zero-add i))) ∙ front
+
+      back : take n (drop k s) ≡ take n x → same_bytes s k x n ≡ true
+      back e = same_if n (λ i b. sym (bytes_get s k n i [] b) ∙ ap (λ (r : List ℕ). get_or (r ++ []) i 0) (bytes_there s k n h ∙ e ∙ sym front) ∙ bytes_get x 0 n i [] b ∙ ap (λ (m : ℕ). get_or x m 0) (zero-add i))

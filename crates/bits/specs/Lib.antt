@@ -5,3 +5,4 @@ pub mod Rows
 pub mod Texts
 pub mod Places
 pub mod Masks
+pub mod Found

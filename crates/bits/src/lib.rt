@@ -54,19 +54,14 @@ pub fn first_of(a: bool, b: bool, c: bool, d: bool) -> u8
 pub fn number(e: [u8; 4]) -> u32
     ensures { result ≡ big (four_at e 0) }
 {
-    big32_at(&e, 0)
+    u32::from_be_bytes(e)
 }
 
 // The four bytes that say a number.
 pub fn four_of(n: u32) -> [u8; 4]
     ensures { result ≡ bytes 4 n }
 {
-    [
-        (n / 256 / 256 / 256 % 256) as u8,
-        (n / 256 / 256 % 256) as u8,
-        (n / 256 % 256) as u8,
-        (n % 256) as u8,
-    ]
+    n.to_be_bytes()
 }
 
 // Four bytes have no bit but those of a mask. Both are looked at as one number.
@@ -93,18 +88,11 @@ pub fn first_outside(e: [u8; 4], mask: u32) -> u8
     )
 }
 
-fn get(s: &[u8], k: usize) -> u8
-    requires { k < length s.now }
-    ensures { result ≡ get_or s.now k 0 }
-{
-    s[k]
-}
-
 pub fn byte_at(s: &[u8], at: u32) -> u8
     requires { at < length s.now }
     ensures { result ≡ get_or s.now at 0 }
 {
-    get(s, at as usize)
+    s[at as usize]
 }
 
 pub fn four_at(s: &[u8], at: u32) -> [u8; 4]
@@ -112,7 +100,7 @@ pub fn four_at(s: &[u8], at: u32) -> [u8; 4]
     ensures { result ≡ four_at s.now at }
 {
     let k = at as usize;
-    [get(s, k), get(s, k + 1), get(s, k + 2), get(s, k + 3)]
+    [s[k], s[k + 1], s[k + 2], s[k + 3]]
 }
 
 pub fn put_four(s: &mut [u8], at: u32, f: [u8; 4])
@@ -120,10 +108,7 @@ pub fn put_four(s: &mut [u8], at: u32, f: [u8; 4])
     ensures { s.new ≡ put_four s.old at f }
 {
     let k = at as usize;
-    s[k] = f[0];
-    s[k + 1] = f[1];
-    s[k + 2] = f[2];
-    s[k + 3] = f[3];
+    s[k..k + 4].copy_from_slice(&f);
 }
 
 // Copies n bytes.
@@ -132,12 +117,8 @@ pub fn copy(from: &[u8], at: u32, to: &mut [u8], place: u32, n: u32)
     requires n_in_bounds_2 { place + n ≤ length to.old }
     ensures { to.new ≡ put_bytes to.old place (bytes_at from.now at n) }
 {
-    let k = place as usize;
-    let mut i: usize = 0;
-    while i < n as usize {
-        to[k + i] = get(from, at as usize + i);
-        i += 1;
-    }
+    let (start, k, n) = (at as usize, place as usize, n as usize);
+    to[k..k + n].copy_from_slice(&from[start..start + n]);
 }
 
 // How many of n bytes stand before the first that is not printable.
@@ -146,14 +127,12 @@ pub fn printable_run(s: &[u8], at: u32, n: u32) -> u32
     ensures { result ≡ printable_run s.now at n }
 {
     let k = at as usize;
-    let mut i: u32 = 0;
-    while i < n {
-        if !is_printable(get(s, k + i as usize)) {
+    for i in 0..n {
+        if !is_printable(s[k + i as usize]) {
             return i;
         }
-        i += 1;
     }
-    i
+    n
 }
 
 // Whether n bytes are the first of a text.
@@ -162,15 +141,8 @@ pub fn are_same(s: &[u8], at: u32, text: &[u8], n: u32) -> bool
     requires n_in_bounds_2 { n ≤ length text.now }
     ensures { result ≡ same_bytes s.now at text.now n }
 {
-    let k = at as usize;
-    let mut i: usize = 0;
-    while i < n as usize {
-        if get(s, k + i) != get(text, i) {
-            return false;
-        }
-        i += 1;
-    }
-    true
+    let (k, n) = (at as usize, n as usize);
+    s[k..k + n] == text[..n]
 }
 
 pub fn big16_at(s: &[u8], at: u32) -> u16
@@ -178,14 +150,12 @@ pub fn big16_at(s: &[u8], at: u32) -> u16
     ensures { result ≡ big (two_at s.now at) }
 {
     let k = at as usize;
-    (get(s, k) as u16) * 256 + get(s, k + 1) as u16
+    u16::from_be_bytes([s[k], s[k + 1]])
 }
 
 pub fn big32_at(s: &[u8], at: u32) -> u32
     requires { at + 4 ≤ length s.now }
     ensures { result ≡ big (four_at s.now at) }
 {
-    let high = big16_at(s, at) as u32;
-    let k = at as usize;
-    high * 65536 + (get(s, k + 2) as u32) * 256 + get(s, k + 3) as u32
+    u32::from_be_bytes(four_at(s, at))
 }

@@ -1,3 +1,4 @@
+pub mod Alike
 pub mod SoundLayout
 pub mod RequestBytes
 pub mod Requests

@@ -3,18 +3,12 @@
 
 ghost use Rattle.std.specs.Prelude.{◌≡◌};
 ghost use Rattle.element_control.specs.Control.{control_of};
-ghost use Rattle.build_element.specs.Wishes.{in_reach, alike, request_bytes, request_for, turning, own, brings, one};
+ghost use Rattle.build_element.specs.Wishes.{in_reach, request_bytes, request_for, turning, own, brings, one};
 ghost use Rattle.build_element.specs.Parts.{tried, tries};
 
 use element::settings::Settings;
 use element::types::Kind;
 use element_control::Control;
-
-pub fn alike(a: [u8; 4], b: [u8; 4]) -> bool
-    ensures { result ≡ alike a b }
-{
-    (a[0] == b[0]) & (a[1] == b[1]) & (a[2] == b[2]) & (a[3] == b[3])
-}
 
 // No control element sets a SWAP: a wanted one must be there.
 pub fn in_reach(kind: Kind, stored: [u8; 4], wanted: [u8; 4]) -> bool
@@ -69,12 +63,13 @@ fn own(kind: Kind, stored: [u8; 4], wanted: [u8; 4]) -> [u8; 4]
 pub fn brings(kind: Kind, control: [u8; 4], stored: [u8; 4], wanted: [u8; 4]) -> bool
     ensures { result ≡ brings kind (control_of kind control) stored wanted }
 {
-    if Control::is_selected(control) {
+    let reached = if Control::is_selected(control) {
         let set = Control::of(kind, control).act(Settings::of(kind, stored));
-        alike(set.bytes(kind), wanted)
+        set.bytes(kind)
     } else {
-        alike(stored, wanted)
-    }
+        stored
+    };
+    reached == wanted
 }
 
 // The individual element to send under an overall one: none where that does it.

@@ -9,5 +9,5 @@ ghost use Rattle.build_order.specs.Order.{sooner};
 pub fn sooner(m: u32, p: [u8; 4], n: u32, q: [u8; 4]) -> bool
     ensures { result ≡ sooner m (big p) n (big q) }
 {
-    (m < n) | ((m == n) & (bits::big32_at(&p, 0) < bits::big32_at(&q, 0)))
+    (m, bits::number(p)) < (n, bits::number(q))
 }

@@ -25,8 +25,7 @@ fn cost(shelf: &[u8], wanted: &[u8], at: Slot, overall: [u8; 4]) -> u32
 {
     let kind = at.kind;
     let mut n = (overall[0] >> 7) as u32;
-    let mut j = at.first;
-    while j < at.end {
+    for j in at.first..at.end {
         let done = build_element::brings(
             kind,
             overall,
@@ -34,7 +33,6 @@ fn cost(shelf: &[u8], wanted: &[u8], at: Slot, overall: [u8; 4]) -> u32
             settings_list::settings_in(wanted, j),
         );
         n += !done as u32;
-        j += 1;
     }
     n
 }
@@ -61,10 +59,8 @@ fn try_record(shelf: &[u8], wanted: &[u8], at: Slot, best: Candidate, x: [u8; 4]
     let kind = at.kind;
     let n = build_element::tries(kind, x);
     let mut best = best;
-    let mut v: u8 = 0;
-    while v < n {
+    for v in 0..n {
         best = try_one(shelf, wanted, at, best, build_element::tried(kind, x, v));
-        v += 1;
     }
     best
 }
@@ -75,12 +71,10 @@ fn is_repeated(wanted: &[u8], first: u16, j: u16) -> bool
     ensures { result ≡ repeated wanted.now first j }
 {
     let x = settings_list::settings_in(wanted, j);
-    let mut i = first;
-    while i < j {
-        if build_element::alike(settings_list::settings_in(wanted, i), x) {
+    for i in first..j {
+        if settings_list::settings_in(wanted, i) == x {
             return true;
         }
-        i += 1;
     }
     false
 }
@@ -118,10 +112,8 @@ pub fn overall(shelf: &[u8], wanted: &[u8], at: Slot) -> [u8; 4]
         overall: Control::UNSELECTED,
         selects,
     };
-    let mut j = at.first;
-    while j < at.end {
+    for j in at.first..at.end {
         best = consider(shelf, wanted, at, best, j);
-        j += 1;
     }
     best.overall
 }

@@ -1,4 +1,5 @@
 -- The page that is made comes before every other that reaches the wish, header and all. Assumes nothing.
+use Rattle.std.specs.Prelude.{Ok}
 use mathlib.Core.Path.{◌≡◌, refl, sym, ap, subst, ◌∙◌}
 use mathlib.Core.List.{List, ◌∷◌, ◌++◌}
 use mathlib.Core.Logic.{inl, inr}
@@ -14,7 +15,6 @@ use Rattle.bits.proofs.Rows.{fours}
 use Rattle.bits.proofs.Sums.{sum_same}
 use Rattle.build_order.specs.Order.{InOrder, NotAfter}
 use Rattle.build_order.proofs.Dictionary.{order_refl, order_append}
-use Rattle.refusals.specs.declared.Answer.TheVariants.{Accepted}
 use Rattle.refusals.proofs.AcceptedTests.{held_both}
 use Rattle.build_element.specs.Parts.{selects}
 use Rattle.shelf.specs.Types.{types_of}
@@ -42,7 +42,7 @@ headers : (h x y : List ℕ) (own : ℕ) → InOrder x y → InOrder (2 ∷ 0 �
 headers h x y zero l = inr (refl, inr (refl, order_append h h x y refl (order_refl h) l))
 headers h x y (suc own) l = inr (refl, inl (omega arith))
 
-accepted_head : (s q : List ℕ) → page_tested s q 0x02 ≡ Accepted → headed s q 0x02 (slots_of s) ≡ Accepted
+accepted_head : (s q : List ℕ) → page_tested s q 0x02 ≡ Ok tt → headed s q 0x02 (slots_of s) ≡ Ok tt
 unfolding page_tested
 accepted_head s q a = (held_both (shelf_tested s) (headed s q 0x02 (slots_of s)) a).1
 
@@ -53,7 +53,7 @@ module _ (s w q : List ℕ) (hs : Bytes s) (r : Reaching s w q) where
   abbrev theirs : ℕ → List ℕ
   theirs i = four_at q (slot_place i)
 
-  is_headed : headed s q 0x02 n ≡ Accepted
+  is_headed : headed s q 0x02 n ≡ Ok tt
   is_headed = accepted_head s q (valid_headed s q r.1)
 
   whole : q ≡ header s 0x02 (get_or q 1 0) n ++ joined theirs n

@@ -17,8 +17,8 @@ use Rattle.bits.proofs.Ends.{part_none}
 use Rattle.bits.proofs.Masks.{known_four}
 use Rattle.bits.proofs.Widths.{bytes_big}
 use Rattle.bits.proofs.Rows.{as_four}
-use Rattle.bits.specs.Choice.{pick, all_below}
-use Rattle.bits.proofs.Logic.{by_case, pick_yes, pick_no, below_fails, below_next}
+use Rattle.bits.specs.Choice.{pick}
+use Rattle.bits.proofs.Logic.{by_case, pick_yes, pick_no}
 use Rattle.element.specs.Settings.{settings_formed}
 use Rattle.element_control.specs.Control.{control_of}
 use Rattle.build_element.specs.Wishes.{silent, in_reach, one}
@@ -53,16 +53,6 @@ module _ (s w : List ℕ) (j : ℕ) {r : Run} (q : r ≡ run_at s j) where
   pub reach_at : {e x : List ℕ} {d : Bool} → e ≡ settings_at s j → x ≡ settings_in w j → d ≡ in_reach r.kind e x → reachable s w j ≡ d
   unfolding reachable
   reach_at u p h = rw (h, run_kind s j q, u, p)
-
-module _ (f : ℕ → Bool) (n j : ℕ) where
-  pub fails_at : {d : Bool} → f j ≡ d → j < n → d ≡ false → all_below f n ≡ false
-  fails_at h l t = below_fails f n j l (h ∙ t)
-
-  pub passes_at : {d : Bool} → f j ≡ d → all_below f j ≡ true → d ≡ true → all_below f (j + 1) ≡ true
-  passes_at h a t = below_next f j a (h ∙ t)
-
-  pub passes_all : j ≡ n → all_below f j ≡ true → all_below f n ≡ true
-  passes_all e a = ap (all_below f) (sym e) ∙ a
 
 -- the four bytes of a slot
 module _ (s w : List ℕ) (at : Slot) (o : List ℕ) where

@@ -1,4 +1,5 @@
 -- The page that is made is valid and reaches the wish; where a SWAP is wanted that is not stored, none does. Assumes nothing.
+use Rattle.std.specs.Prelude.{Ok}
 use mathlib.Core.Path.{◌≡◌, refl, sym, ap, ◌∙◌}
 use mathlib.Core.Bool.{true, false}
 use mathlib.Core.List.{List}
@@ -14,7 +15,6 @@ use Rattle.bits.proofs.Rows.{joined_same}
 use Rattle.element.specs.Settings.{settings_of, settings_formed}
 use Rattle.element_control.specs.Control.{control_of, offending}
 use Rattle.element_control.proofs.Acting.{swap_kept_lem}
-use Rattle.refusals.specs.declared.Answer.TheVariants.{Accepted}
 use Rattle.build_element.specs.Wishes.{one}
 use Rattle.build_element.proofs.FirstElement.{one_reaches}
 use Rattle.shelf.specs.Types.{types_of, type_count, before, elements_of, type_of, kind_at}
@@ -43,7 +43,7 @@ module _ (s w : List ℕ) (f : well_formed s ≡ true) where
   ff : front_formed s ≡ true
   ff = front_formed_lem s f
 
-  headed_made : page_tested s (control_page s w) 0x02 ≡ Accepted
+  headed_made : page_tested s (control_page s w) 0x02 ≡ Ok tt
   unfolding page_tested control_page
   headed_made = rw f (head_written (row_for s w) (row_for_length s w) s 0x02 0 (slots_of s) (omega (arith, slots_bound s ff)))
 

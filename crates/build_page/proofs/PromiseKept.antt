@@ -1,4 +1,5 @@
 -- The call keeps its promise, and the promise settles the outcome. Assumes nothing.
+use Rattle.std.specs.Prelude.{Ok, Err}
 use mathlib.Core.Path.{◌≡◌, refl, sym, ap, ◌∙◌}
 use mathlib.Core.Bool.{Bool, true, false, not, ◌&&◌, ◌||◌}
 use mathlib.Core.List.{List}
@@ -15,8 +16,6 @@ use Rattle.element.specs.Settings.{settings_of}
 use Rattle.build_element.specs.Wishes.{in_reach}
 use Rattle.refusals.specs.declared.Refusal.{Refusal}
 use Rattle.refusals.specs.declared.Refusal.TheVariants.{ShelfNotWellFormed, WantedList, Unreachable}
-use Rattle.refusals.specs.declared.Answer.{Answer}
-use Rattle.refusals.specs.declared.Answer.TheVariants as answer
 use Rattle.refusals.specs.Outcomes.{next}
 use Rattle.refusals.proofs.AcceptedTests.{held, not_held, held_both}
 use Rattle.shelf.specs.Types.{elements_of, kind_at}
@@ -25,14 +24,13 @@ use Rattle.shelf.specs.SettingsList.{settings_in}
 use Rattle.shelf_formed.specs.Formed.{well_formed}
 use Rattle.page.specs.Slots.{slots_of}
 use Rattle.page.specs.Header.{shelf_tested}
-use Rattle.build_page.specs.declared.built.Built.{Built}
-use Rattle.build_page.specs.declared.built.Built.TheVariants.{Refused}
-use Rattle.build_page.specs.Outcome.{passed_on, built_of, left_by}
+use Rattle.build_page.specs.Outcome.{passed_on, built_of, left_by, BuildAnswer}
 use Rattle.build_page.specs.Promise.{may_be, number_tested, records_tested, wish_tested, Best, OutOfReach, Answered, Passed, Promised}
 use Rattle.build_page.specs.Page.{selects_for, control_page, reachable, reach_tested}
 use Rattle.build_page.proofs.FirstPage.{made_selects}
 use Rattle.build_page.proofs.PageReaches.{out_of_reach}
 use Rattle.build_page.proofs.BestPage.{made_best, only_one}
+use Rattle.refusals.specs.Answers.{Answer}
 
 -- a test that does not pass at each number fails at one
 some_fails : (f : ℕ → Bool) (n : ℕ) → all_below f n ≡ false → (j : ℕ) × (j < n) × (f j ≡ false)
@@ -66,16 +64,16 @@ no_page s w t q r =
     swaps j f = unfold reachable in_reach in out_of _ _ f
 
 -- else the best page is the one that is made, if the wish passes the tests
-module _ (s w : List ℕ) (taken : wish_tested s w ≡ answer.Accepted) where
+module _ (s w : List ℕ) (taken : wish_tested s w ≡ Ok tt) where
   all_passed : (well_formed s ≡ true) × (length w ≡ 4 * elements_of s) × (all_below (may_be s w) (elements_of s) ≡ true)
   unfolding wish_tested
   all_passed =
       let n = elements_of s in
       let b = held_both (shelf_tested s) (next (number_tested w n) (records_tested s w n)) taken in
-      let f = (held (well_formed s) ShelfNotWellFormed answer.Accepted b.0).0 in
+      let f = (held (well_formed s) ShelfNotWellFormed (Ok tt) b.0).0 in
       let d = held_both (number_tested w n) (records_tested s w n) b.1 in
-      let l = (held (eqb (length w) (4 * n)) WantedList answer.Accepted d.0).0 in
-      (f, eqb-true _ _ l, (held (all_below (may_be s w) n) WantedList answer.Accepted d.1).0)
+      let l = (held (eqb (length w) (4 * n)) WantedList (Ok tt) d.0).0 in
+      (f, eqb-true _ _ l, (held (all_below (may_be s w) n) WantedList (Ok tt) d.1).0)
 
   swap_stored : (j : ℕ) → reachable s w j ≡ true → (settings_of (kind_at s j) (settings_in w j)).swap ≡ true → (settings_of (kind_at s j) (settings_at s j)).swap ≡ true
   unfolding reachable in_reach
@@ -87,18 +85,18 @@ module _ (s w : List ℕ) (taken : wish_tested s w ≡ answer.Accepted) where
       made_best s w z.0 hs hw z.1
       (λ j l. (below_at (may_be s w) (elements_of s) z.2 j l, swap_stored j (below_at (reachable s w) (elements_of s) t j l)))
 
-pub reach_held : (s w : List ℕ) (n : ℕ) {d : Answer} → d ≡ reach_tested s w n → d ≡ answer.Accepted → all_below (reachable s w) n ≡ true
-reach_held s w n h u = (held (all_below (reachable s w) n) Unreachable answer.Accepted (sym h ∙ u)).0
+pub reach_held : (s w : List ℕ) (n : ℕ) {d : Answer} → d ≡ reach_tested s w n → d ≡ Ok tt → all_below (reachable s w) n ≡ true
+reach_held s w n h u = (held (all_below (reachable s w) n) Unreachable (Ok tt) (sym h ∙ u)).0
 
 module _ (s w out : List ℕ) where
-  pub wish_refused : {a : Answer} {x : Refusal} {r : Built} → a ≡ wish_tested s w → a ≡ answer.Refused x → r ≡ passed_on a → Promised s w out r out
+  pub wish_refused : {a : Answer} {x : Refusal} {r : BuildAnswer} → a ≡ wish_tested s w → a ≡ Err x → r ≡ passed_on a → Promised s w out r out
   wish_refused {a} {x} {r} p u h =
-      let t : wish_tested s w ≡ answer.Refused x = sym p ∙ u in
-      let q : r ≡ Refused x = h ∙ ap passed_on u in
+      let t : wish_tested s w ≡ Err x = sym p ∙ u in
+      let q : r ≡ Err x = h ∙ ap passed_on u in
       rw t (q, refl)
 
-  module _ {a : Answer} (p : a ≡ wish_tested s w) (u : a ≡ answer.Accepted) where
-    taken : wish_tested s w ≡ answer.Accepted
+  module _ {a : Answer} (p : a ≡ wish_tested s w) (u : a ≡ Ok tt) where
+    taken : wish_tested s w ≡ Ok tt
     taken = sym p ∙ u
 
     pub wish_there : (well_formed s ≡ true) × (length w ≡ 4 * elements_of s)
@@ -107,17 +105,17 @@ module _ (s w out : List ℕ) where
     reach_is : {n : ℕ} {d b : Bool} → n ≡ elements_of s → d ≡ all_below (reachable s w) n → d ≡ b → all_below (reachable s w) (elements_of s) ≡ b
     reach_is e h t = ap (all_below (reachable s w)) (sym e) ∙ sym h ∙ t
 
-    pub none_reaches : {n : ℕ} {d : Bool} → n ≡ elements_of s → d ≡ all_below (reachable s w) n → d ≡ false → Promised s w out (Refused Unreachable) out
+    pub none_reaches : {n : ℕ} {d : Bool} → n ≡ elements_of s → d ≡ all_below (reachable s w) n → d ≡ false → Promised s w out (Err Unreachable) out
     none_reaches e h t = rw taken (inl (no_page s w (reach_is e h t), refl, refl))
 
-    pub reach_refused : {n : ℕ} {d : Answer} {x : Refusal} {r : Built} → n ≡ elements_of s → d ≡ reach_tested s w n → d ≡ answer.Refused x → r ≡ passed_on d
+    pub reach_refused : {n : ℕ} {d : Answer} {x : Refusal} {r : BuildAnswer} → n ≡ elements_of s → d ≡ reach_tested s w n → d ≡ Err x → r ≡ passed_on d
         → Promised s w out r out
     reach_refused {n} {d} {x} {r} e h t q =
         let z = not_held (all_below (reachable s w) n) Unreachable h t in
-        let y : r ≡ Refused Unreachable = q ∙ ap passed_on (t ∙ ap answer.Refused z.1) in
+        let y : r ≡ Err Unreachable = q ∙ ap passed_on (t ∙ ap Err z.1) in
         rw y (none_reaches e refl z.0)
 
-    pub page_promised : Bytes s → Bytes w → {n : ℕ} {d : Bool} {r : Built} {y : List ℕ} → n ≡ elements_of s → d ≡ all_below (reachable s w) n → d ≡ true
+    pub page_promised : Bytes s → Bytes w → {n : ℕ} {d : Bool} {r : BuildAnswer} {y : List ℕ} → n ≡ elements_of s → d ≡ all_below (reachable s w) n → d ≡ true
         → r ≡ built_of (control_page s w) (selects_for s w (slots_of s)) out → y ≡ left_by r (control_page s w) out → Promised s w out r y
     page_promised hs hw e h t q v =
         rw taken
@@ -129,7 +127,7 @@ module _ (s w out : List ℕ) where
         ))
 
   -- two outcomes that keep the promise are one
-  pub settles : (r q : Built) (y z : List ℕ) → Promised s w out r y → Promised s w out q z → (r ≡ q) × (y ≡ z)
+  pub settles : (r q : BuildAnswer) (y z : List ℕ) → Promised s w out r y → Promised s w out q z → (r ≡ q) × (y ≡ z)
   settles r q y z h l = go (wish_tested s w) h l
     where
       answered : Answered s w out r y → Answered s w out q z → (r ≡ q) × (y ≡ z)
@@ -142,5 +140,5 @@ module _ (s w out : List ℕ) where
           (e, a.3 ∙ rw (e, p) (sym b.3))
 
       go : (t : Answer) → Passed t s w out r y → Passed t s w out q z → (r ≡ q) × (y ≡ z)
-      go answer.Accepted a b = answered a b
-      go (answer.Refused x) a b = (a.0 ∙ sym b.0, a.1 ∙ sym b.1)
+      go (Ok _) a b = answered a b
+      go (Err x) a b = (a.0 ∙ sym b.0, a.1 ∙ sym b.1)

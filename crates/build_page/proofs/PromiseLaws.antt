@@ -1,4 +1,5 @@
 -- What the promise comes to: a page is built exactly if one reaches the wish, and applied it reaches it. Assumes nothing.
+use Rattle.std.specs.Prelude.{Ok, Err}
 use mathlib.Core.Path.{◌≡◌, sym, ap, ◌∙◌}
 use mathlib.Core.Bool.{Bool, true, false}
 use mathlib.Core.List.{List, ◌++◌}
@@ -19,8 +20,6 @@ use Rattle.element.specs.Settings.{settings_formed}
 use Rattle.element_control.proofs.Acting.{settled_formed}
 use Rattle.refusals.specs.declared.Refusal.{Refusal}
 use Rattle.refusals.specs.declared.Refusal.TheVariants.{Unreachable, OutputTooShort}
-use Rattle.refusals.specs.declared.Answer.{Answer}
-use Rattle.refusals.specs.declared.Answer.TheVariants as answer
 use Rattle.shelf.specs.Limits.{element_place}
 use Rattle.shelf.specs.Types.{types_of, elements_of, kind_at}
 use Rattle.shelf.specs.Elements.{settings_at}
@@ -34,18 +33,17 @@ use Rattle.control_page.specs.Brought.{settings_after, brought_to}
 use Rattle.control_page.proofs.ValidPage.{valid_formed}
 use Rattle.control_page.proofs.PageActs.{after_length}
 use Rattle.control_page.proofs.Changes.{after, reached, settled_kept}
-use Rattle.build_page.specs.declared.built.Built.{Built}
-use Rattle.build_page.specs.declared.built.Built.TheVariants.{Page, Refused}
-use Rattle.build_page.specs.Outcome.{built_of, left_by}
+use Rattle.build_page.specs.Outcome.{bytes_built, selects_built, built_of, left_by, BuildAnswer}
 use Rattle.build_page.specs.Promise.{may_be, wish_tested, selects_on, Reaching, Best, OutOfReach, Answered, Passed, Promised}
 use Rattle.build_page.specs.Page.{search_in, control_page, reachable}
 use Rattle.build_page.proofs.SlotsByType.{slots_end}
 use Rattle.build_page.proofs.FirstSlots.{brought, needed_upto}
 use Rattle.build_page.proofs.BestPage.{only_one}
 use Rattle.build_page.proofs.PromiseKept.{no_page, best_page}
+use Rattle.refusals.specs.Answers.{Answer}
 
 -- a well-formed shelf takes a wish with a record for each element that its type may have
-pub wish_taken : (s w : List ℕ) → well_formed s ≡ true → length w ≡ 4 * elements_of s → all_below (may_be s w) (elements_of s) ≡ true → wish_tested s w ≡ answer.Accepted
+pub wish_taken : (s w : List ℕ) → well_formed s ≡ true → length w ≡ 4 * elements_of s → all_below (may_be s w) (elements_of s) ≡ true → wish_tested s w ≡ Ok tt
 unfolding wish_tested
 wish_taken s w f l m =
     let e : eqb (length w) (4 * elements_of s) ≡ true = eq-eqb _ _ l in
@@ -68,7 +66,7 @@ module _ (s w q : List ℕ) (r : Reaching s w q) where
   all_may_be : all_below (may_be s w) (elements_of s) ≡ true
   all_may_be = below_all (may_be s w) (elements_of s) (λ j l. ap (settings_formed (kind_at s j)) (sym (brought s w q r.2 j l)) ∙ formed_after j l)
 
-  pub wish_passes : wish_tested s w ≡ answer.Accepted
+  pub wish_passes : wish_tested s w ≡ Ok tt
   wish_passes = wish_taken s w formed as_long_lem all_may_be
 
   -- a page that reaches it has the SELECTs that each type needs with the overall element that the page has for it
@@ -85,15 +83,15 @@ pub as_stored_kept : (s w p : List ℕ) → Reaching s w p → (j : ℕ) → j <
 as_stored_kept s w p r j l e = settled_kept s p j l (brought s w p r.2 j l ∙ e)
 
 -- a page that is built is no refusal, and a short buffer not refusal 10
-no_refusal : (n m : ℕ) (x : Refusal) → Page n m ≡ Refused x → ⊥
+no_refusal : (n m : ℕ) (x : Refusal) → ◌≡◌ {A = BuildAnswer} (Ok (record { bytes = n; selects = m })) (Err x) → ⊥
 no_refusal n m x e = let z : ◌≡◌ {A = ℕ} 0 1 = cc in absurd (omega arith)
 
-not_ten : (b : Bool) (n m : ℕ) → pick b (Page n m) (Refused OutputTooShort) ≡ Refused Unreachable → ⊥
+not_ten : (b : Bool) (n m : ℕ) → pick {A = BuildAnswer} b (Ok (record { bytes = n; selects = m })) (Err OutputTooShort) ≡ Err Unreachable → ⊥
 not_ten true n m e = no_refusal n m Unreachable e
 not_ten false n m e = let z : ◌≡◌ {A = ℕ} 0 1 = cc in absurd (omega arith)
 
-module _ (s w out : List ℕ) (r : Built) (y : List ℕ) (h : Promised s w out r y) where
-  answered : wish_tested s w ≡ answer.Accepted → Answered s w out r y
+module _ (s w out : List ℕ) (r : BuildAnswer) (y : List ℕ) (h : Promised s w out r y) where
+  answered : wish_tested s w ≡ Ok tt → Answered s w out r y
   answered e = rw e at h
 
   -- where some page reaches the wish, the best one is the outcome, if the output buffer holds it
@@ -105,31 +103,31 @@ module _ (s w out : List ℕ) (r : Built) (y : List ℕ) (h : Promised s w out r
       go (inr b) = b
 
   -- 10 exactly if none does, of the wishes that pass the tests
-  pub ten_if : wish_tested s w ≡ answer.Accepted → OutOfReach s w → r ≡ Refused Unreachable
+  pub ten_if : wish_tested s w ≡ Ok tt → OutOfReach s w → r ≡ Err Unreachable
   ten_if e f = go (answered e)
     where
-      go : Answered s w out r y → r ≡ Refused Unreachable
+      go : Answered s w out r y → r ≡ Err Unreachable
       go (inl a) = a.1
       go (inr b) = absurd (f b.0 b.1.0)
 
-  pub ten_only_if : r ≡ Refused Unreachable → OutOfReach s w
+  pub ten_only_if : r ≡ Err Unreachable → OutOfReach s w
   ten_only_if e q g = let b = one_reaches q g in not_ten (leb (length b.0) (length out)) _ _ (sym b.2 ∙ e)
 
   -- the bytes that are reported are the best page, and the SELECTs those of these bytes
-  pub page_written : (n m : ℕ) → r ≡ Page n m → Best s w (take n y) × (m ≡ selects_on s (take n y)) × (y ≡ take n y ++ drop n out)
+  pub page_written : (n m : ℕ) → r ≡ Ok (record { bytes = n; selects = m }) → Best s w (take n y) × (m ≡ selects_on s (take n y)) × (y ≡ take n y ++ drop n out)
   page_written n m e = go (wish_tested s w) h
     where
-      sizes : (p : List ℕ) (b : Bool) → Page n m ≡ pick b (Page (length p) (selects_on s p)) (Refused OutputTooShort) → (n ≡ length p) × (m ≡ selects_on s p)
-      sizes p true q = (let z : n ≡ length p = cc in z, let z : m ≡ selects_on s p = cc in z)
+      sizes : (p : List ℕ) (b : Bool) → ◌≡◌ {A = BuildAnswer} (Ok (record { bytes = n; selects = m })) (pick b (Ok (record { bytes = length p; selects = selects_on s p })) (Err OutputTooShort)) → (n ≡ length p) × (m ≡ selects_on s p)
+      sizes p true q = (ap bytes_built q, ap selects_built q)
       sizes p false q = absurd (no_refusal n m OutputTooShort q)
 
       go : (a : Answer) → Passed a s w out r y → Best s w (take n y) × (m ≡ selects_on s (take n y)) × (y ≡ take n y ++ drop n out)
-      go (answer.Refused x) b = absurd (no_refusal n m x (sym e ∙ b.0))
-      go answer.Accepted (inl a) = absurd (no_refusal n m Unreachable (sym e ∙ a.1))
-      go answer.Accepted (inr b) =
+      go (Err x) b = absurd (no_refusal n m x (sym e ∙ b.0))
+      go (Ok x) (inl a) = absurd (no_refusal n m Unreachable (sym e ∙ a.1))
+      go (Ok x) (inr b) =
           let p = b.0 in
           let z = sizes p (leb (length p) (length out)) (sym e ∙ b.2) in
-          let f : y ≡ p ++ drop n out = b.3 ∙ ap (λ (x : Built). left_by x p out) e in
+          let f : y ≡ p ++ drop n out = b.3 ∙ ap (λ (x : BuildAnswer). left_by x p out) e in
           let g : take n y ≡ p = ap (take n) f ∙ take_at p (drop n out) n (sym z.0) in
           rw g (b.1, z.1, f)
 

@@ -1,5 +1,5 @@
 -- The control page for a wish: how it is made. Assumes nothing.
-use Rattle.std.specs.Prelude.{Bool, List, ◌++◌, ℕ}
+use Rattle.std.specs.Prelude.{Bool, List, ◌++◌, ℕ, Ok}
 use Rattle.bits.specs.Choice.{pick, all_below, sum_below}
 use Rattle.bits.specs.Rows.{joined}
 use Rattle.element.specs.declared.types.Kind.{Kind}
@@ -9,8 +9,6 @@ use Rattle.build_order.specs.Search.{Search, best}
 use Rattle.build_element.specs.Wishes.{in_reach, one}
 use Rattle.build_element.specs.Parts.{selects, overall_search}
 use Rattle.refusals.specs.declared.Refusal.TheVariants.{Unreachable}
-use Rattle.refusals.specs.declared.Answer.{Answer}
-use Rattle.refusals.specs.declared.Answer.TheVariants.{Accepted}
 use Rattle.refusals.specs.Outcomes.{unless}
 use Rattle.shelf.specs.Types.{type_code, type_count, before, kind_at}
 use Rattle.shelf.specs.Elements.{settings_at}
@@ -19,6 +17,7 @@ use Rattle.page.specs.declared.slots.Slot.{Slot}
 use Rattle.page.specs.Slots.{slots_of, slot_type, slot_at}
 use Rattle.page.specs.Header.{header}
 use Rattle.build_overall.specs.Choice.{stored_from, wanted_from}
+use Rattle.refusals.specs.Answers.{Answer}
 
 -- of type t: its kind, and what is stored and wanted of its element i
 abbrev pub type_kind : List ℕ → ℕ → Kind
@@ -57,4 +56,4 @@ reachable s w j = in_reach (kind_at s j) (settings_at s j) (settings_in w j)
 
 -- 10: one of the first n that can't
 abbrev pub reach_tested : List ℕ → List ℕ → ℕ → Answer
-reach_tested s w n = unless (all_below (reachable s w) n) Unreachable Accepted
+reach_tested s w n = unless (all_below (reachable s w) n) Unreachable (Ok tt)

@@ -14,7 +14,7 @@ use crate::built::Built;
 use control_page::testing;
 use page::slots::Slot;
 use page::{header, slots};
-use refusals::Written;
+use refusals::Refusal;
 use shelf::{elements, settings_list};
 
 // The overall element that stands from this slot on, as the number that its bytes say: so one register carries it.
@@ -39,9 +39,8 @@ fn row(shelf: &[u8], wanted: &[u8], at: Slot, overall: u32) -> [u8; 4]
     if at.overall {
         return over;
     }
-    let kind = at.kind;
     build_element::one(
-        kind,
+        at.kind,
         over,
         elements::settings_at(shelf, at.first),
         settings_list::settings_in(wanted, at.first),
@@ -60,34 +59,31 @@ fn put_slots(shelf: &[u8], wanted: &[u8], out: &mut [u8], n: u16) -> u32
     let mut sum: u32 = 0;
     let mut over: u32 = 0;
     let mut run = slots::first_run();
-    let mut i: u16 = 0;
-    while i < n {
-        let here = slots::run_to(shelf, run, i);
-        run = here;
-        let at = slots::slot_in(here, i);
+    for i in 0..n {
+        run = slots::run_to(shelf, run, i);
+        let at = slots::slot_in(run, i);
         let current = overall(shelf, wanted, at, over);
         over = current;
         let bytes = row(shelf, wanted, at, current);
         bits::put_four(out, slots::slot_place(i), bytes);
         sum += (bytes[0] >> 7) as u32;
-        i += 1;
     }
     sum
 }
 
 // Writes the page if the output buffer holds it.
-pub fn write(shelf: &[u8], wanted: &[u8], out: &mut [u8]) -> Built
+pub fn write(shelf: &[u8], wanted: &[u8], out: &mut [u8]) -> Result<Built, Refusal>
     requires shelf_value { well_formed shelf.now ≡ true }
     requires shelf_in_bounds { 4 * elements_of shelf.now ≤ length wanted.now }
     ensures value { result ≡ built_of (control_page shelf.now wanted.now) (selects_for shelf.now wanted.now (slots_of shelf.now)) out.old }
     ensures out_after { out.new ≡ left_by result (control_page shelf.now wanted.now) out.old }
 {
     let n = slots::count(shelf);
-    let fit = Written::fit(slots::slot_place(n), out.len());
-    let Written::Bytes(bytes) = fit else {
-        return Built::refused(fit.answer());
+    let fit = refusals::fit(slots::slot_place(n), out.len());
+    let Ok(bytes) = fit else {
+        return fit.and(Ok(Built::NOTHING));
     };
     header::put(shelf, out, testing::CODE, 0, n);
     let selects = put_slots(shelf, wanted, out, n);
-    Built::Page { bytes, selects }
+    Ok(Built { bytes, selects })
 }

@@ -1,4 +1,5 @@
 -- What the tests of a collected page and its end come to, from what the calls say. Assumes nothing.
+use Rattle.std.specs.Prelude.{Ok, Err}
 use mathlib.Core.Path.{◌≡◌, refl, sym, ap, ap₂, ◌∙◌}
 use mathlib.Core.List.{List, [], ◌∷◌}
 use Prim.Native.Nat.{ℕ, ◌<◌, ◌≤◌}
@@ -11,9 +12,6 @@ use Rattle.bits.proofs.Logic.{pick_yes, pick_no}
 use Rattle.bits.proofs.Rows.{length-bytes_at}
 use Rattle.refusals.specs.declared.Refusal.{Refusal}
 use Rattle.refusals.specs.declared.Refusal.TheVariants.{PageCode, NeededLength}
-use Rattle.refusals.specs.declared.Answer.{Answer}
-use Rattle.refusals.specs.declared.Answer.TheVariants.{Accepted, Refused}
-use Rattle.refusals.specs.declared.PageAnswer.{PageAnswer}
 use Rattle.refusals.specs.Outcomes.{next, of_page, Changes}
 use Rattle.refusals.proofs.Stages.{stopped, gone_on}
 use Rattle.page.specs.Header.{shelf_tested, size_tested, given_tested}
@@ -24,48 +22,49 @@ use Rattle.collector.specs.Collector.{most_kept, room_place, count_of, page_of}
 use Rattle.collector.proofs.Held.{first_byte_lem}
 use Rattle.collected_page.specs.Meant.{other_tested, meant_tested, meant_after, meant_code, long_tested}
 use Rattle.collected_page.proofs.Long.{long_tested_lem, long_after, by_front}
+use Rattle.refusals.specs.Answers.{Answer, PageAnswer}
 
 -- the tests where another code is meant
 module _ (s p : List ℕ) {a : Answer} (h : a ≡ shelf_tested s) where
-  pub other_not_formed : {r : Refusal} → a ≡ Refused r → a ≡ other_tested s p
+  pub other_not_formed : {r : Refusal} → a ≡ Err r → a ≡ other_tested s p
   unfolding other_tested
-  other_not_formed u = stopped (shelf_tested s) (next (size_tested p) (Refused PageCode)) h u
+  other_not_formed u = stopped (shelf_tested s) (next (size_tested p) (Err PageCode)) h u
 
-  module _ (u : a ≡ Accepted) {b : Answer} (k : b ≡ size_tested p) where
-    pub other_short : {r : Refusal} → b ≡ Refused r → b ≡ other_tested s p
+  module _ (u : a ≡ Ok tt) {b : Answer} (k : b ≡ size_tested p) where
+    pub other_short : {r : Refusal} → b ≡ Err r → b ≡ other_tested s p
     unfolding other_tested
-    other_short v = gone_on (shelf_tested s) (next (size_tested p) (Refused PageCode)) h u (stopped (size_tested p) (Refused PageCode) k v)
+    other_short v = gone_on (shelf_tested s) (next (size_tested p) (Err PageCode)) h u (stopped (size_tested p) (Err PageCode) k v)
 
-    pub other_code : b ≡ Accepted → Refused PageCode ≡ other_tested s p
+    pub other_code : b ≡ Ok tt → Err PageCode ≡ other_tested s p
     unfolding other_tested
-    other_code v = gone_on (shelf_tested s) (next (size_tested p) (Refused PageCode)) h u (gone_on (size_tested p) (Refused PageCode) k v refl)
+    other_code v = gone_on (shelf_tested s) (next (size_tested p) (Err PageCode)) h u (gone_on (size_tested p) (Err PageCode) k v refl)
 
 -- and of a page longer than the largest
 module _ (s p : List ℕ) (n code : ℕ) {a : Answer} (h : a ≡ shelf_tested s) where
   abbrev said : Answer
-  said = next (given_tested p n) (Refused NeededLength)
+  said = next (given_tested p n) (Err NeededLength)
 
   abbrev coded : Answer
   coded = next (meant_code p code) said
 
-  pub long_not_formed : {r : Refusal} → a ≡ Refused r → a ≡ long_tested s p n code
+  pub long_not_formed : {r : Refusal} → a ≡ Err r → a ≡ long_tested s p n code
   unfolding long_tested
   long_not_formed u = stopped (shelf_tested s) coded h u
 
-  module _ (u : a ≡ Accepted) {b : Answer} (k : b ≡ meant_code p code) where
-    pub long_other_code : {r : Refusal} → b ≡ Refused r → b ≡ long_tested s p n code
+  module _ (u : a ≡ Ok tt) {b : Answer} (k : b ≡ meant_code p code) where
+    pub long_other_code : {r : Refusal} → b ≡ Err r → b ≡ long_tested s p n code
     unfolding long_tested
     long_other_code v = gone_on (shelf_tested s) coded h u (stopped (meant_code p code) said k v)
 
-    module _ (v : b ≡ Accepted) {d : Answer} (q : d ≡ given_tested p n) where
-      pub long_not_said : {r : Refusal} → d ≡ Refused r → d ≡ long_tested s p n code
+    module _ (v : b ≡ Ok tt) {d : Answer} (q : d ≡ given_tested p n) where
+      pub long_not_said : {r : Refusal} → d ≡ Err r → d ≡ long_tested s p n code
       unfolding long_tested
-      long_not_said w = gone_on (shelf_tested s) coded h u (gone_on (meant_code p code) said k v (stopped (given_tested p n) (Refused NeededLength) q w))
+      long_not_said w = gone_on (shelf_tested s) coded h u (gone_on (meant_code p code) said k v (stopped (given_tested p n) (Err NeededLength) q w))
 
-      pub long_not_needed : d ≡ Accepted → Refused NeededLength ≡ long_tested s p n code
+      pub long_not_needed : d ≡ Ok tt → Err NeededLength ≡ long_tested s p n code
       unfolding long_tested
       long_not_needed w =
-          gone_on (shelf_tested s) coded h u (gone_on (meant_code p code) said k v (gone_on (given_tested p n) (Refused NeededLength) q w refl))
+          gone_on (shelf_tested s) coded h u (gone_on (meant_code p code) said k v (gone_on (given_tested p n) (Err NeededLength) q w refl))
 
 -- the page by the code meant
 module _ (code : ℕ) (s p : List ℕ) where

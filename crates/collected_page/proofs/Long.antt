@@ -1,4 +1,5 @@
 -- A page longer than the largest is refused, and its first bytes and their number tell why. Assumes nothing.
+use Rattle.std.specs.Prelude.{Ok, Err}
 use mathlib.Core.Path.{◌≡◌, refl, sym, ap, ap₂, ◌∙◌}
 use mathlib.Core.Bool.{Bool, true, false, ◌||◌}
 use mathlib.Core.List.{List}
@@ -12,9 +13,6 @@ use Rattle.bits.specs.Places.{two_at}
 use Rattle.bits.proofs.Logic.{by_case, pick_yes, pick_no}
 use Rattle.refusals.specs.declared.Refusal.{Refusal}
 use Rattle.refusals.specs.declared.Refusal.TheVariants.{ShelfNotWellFormed, PageCode, PageLength, NeededLength}
-use Rattle.refusals.specs.declared.Answer.{Answer}
-use Rattle.refusals.specs.declared.Answer.TheVariants.{Accepted, Refused}
-use Rattle.refusals.specs.declared.PageAnswer.{PageAnswer}
 use Rattle.refusals.specs.Outcomes.{unless, next, of_page, page_next, accepts}
 use Rattle.shelf_formed.specs.Formed.{well_formed}
 use Rattle.shelf_formed.proofs.ElementTypes.{front_formed_lem}
@@ -25,6 +23,7 @@ use Rattle.control_page.specs.Tests as control
 use Rattle.threshold_page_out.specs.Tests as thresholds
 use Rattle.collector.specs.Collector.{most_kept}
 use Rattle.collected_page.specs.Meant.{other_tested, meant_tested, meant_after, meant_code, long_tested}
+use Rattle.refusals.specs.Answers.{Answer, PageAnswer}
 
 -- no shelf needs more bytes than the largest page has
 needs_few : (s : List ℕ) → well_formed s ≡ true → slot_place (slots_of s) ≤ most_kept
@@ -33,37 +32,37 @@ needs_few s w = let f = front_formed_lem s w in omega (arith, few_types s f, few
 
 -- stages one after the other
 next_next : (a b rest : Answer) → next (next a b) rest ≡ next a (next b rest)
-next_next Accepted b rest = refl
-next_next (Refused r) b rest = refl
+next_next (Ok _) b rest = refl
+next_next (Err r) b rest = refl
 
-where_formed : (t : Bool) {x y : Answer} → (t ≡ true → x ≡ y) → next (unless t ShelfNotWellFormed Accepted) x ≡ next (unless t ShelfNotWellFormed Accepted) y
+where_formed : (t : Bool) {x y : Answer} → (t ≡ true → x ≡ y) → next (unless t ShelfNotWellFormed (Ok tt)) x ≡ next (unless t ShelfNotWellFormed (Ok tt)) y
 where_formed true f = f refl
 where_formed false f = refl
 
 -- which end with a refusal
 module _ (r : Refusal) where
-  no_more : (a b c : Answer) (rest : PageAnswer) → page_next (next a (next b (next c (Refused r)))) rest ≡ of_page (next a (next b (next c (Refused r))))
-  no_more Accepted Accepted Accepted rest = refl
-  no_more Accepted Accepted (Refused x) rest = refl
-  no_more Accepted (Refused x) c rest = refl
-  no_more (Refused x) b c rest = refl
+  no_more : (a b c : Answer) (rest : PageAnswer) → page_next (next a (next b (next c (Err r)))) rest ≡ of_page (next a (next b (next c (Err r))))
+  no_more (Ok _) (Ok _) (Ok _) rest = refl
+  no_more (Ok _) (Ok _) (Err x) rest = refl
+  no_more (Ok _) (Err x) c rest = refl
+  no_more (Err x) b c rest = refl
 
-  never_accepts : (a b c : Answer) → accepts (of_page (next a (next b (next c (Refused r))))) ≡ false
-  never_accepts Accepted Accepted Accepted = refl
-  never_accepts Accepted Accepted (Refused x) = refl
-  never_accepts Accepted (Refused x) c = refl
-  never_accepts (Refused x) b c = refl
+  never_accepts : (a b c : Answer) → accepts (of_page (next a (next b (next c (Err r))))) ≡ false
+  never_accepts (Ok _) (Ok _) (Ok _) = refl
+  never_accepts (Ok _) (Ok _) (Err x) = refl
+  never_accepts (Ok _) (Err x) c = refl
+  never_accepts (Err x) b c = refl
 
 module _ (s p : List ℕ) (l : most_kept < length p) where
-  size_passed : size_tested p ≡ Accepted
+  size_passed : size_tested p ≡ Ok tt
   unfolding size_tested
   size_passed = rw (le-leb 4 (length p) (omega arith))
 
-  length-refused : well_formed s ≡ true → length_tested p (slot_place (slots_of s)) ≡ Refused NeededLength
+  length-refused : well_formed s ≡ true → length_tested p (slot_place (slots_of s)) ≡ Err NeededLength
   unfolding length_tested
   length-refused w = let n = needs_few s w in rw (ne_eqb (length p) (slot_place (slots_of s)) (λ e. omega (arith, n, e, l)))
 
-  long_head : (code : ℕ) → page_tested s p code ≡ next (shelf_tested s) (next (code_tested p code) (next (given_tested p (length p)) (Refused NeededLength)))
+  long_head : (code : ℕ) → page_tested s p code ≡ next (shelf_tested s) (next (code_tested p code) (next (given_tested p (length p)) (Err NeededLength)))
   unfolding page_tested headed framed said_tested
   long_head code =
       where_formed (well_formed s)
@@ -71,10 +70,10 @@ module _ (s p : List ℕ) (l : most_kept < length p) where
       ap₂ next
       (ap (λ (a : Answer). next a (next (code_tested p code) (given_tested p (length p)))) size_passed)
       (ap (λ (a : Answer). next a (generation_tested s p)) (length-refused w))
-      ∙ next_next (code_tested p code) (given_tested p (length p)) (Refused NeededLength))
+      ∙ next_next (code_tested p code) (given_tested p (length p)) (Err NeededLength))
 
   long_page : (code : ℕ) (own : PageAnswer)
-      → page_next (page_tested s p code) own ≡ of_page (next (shelf_tested s) (next (code_tested p code) (next (given_tested p (length p)) (Refused NeededLength))))
+      → page_next (page_tested s p code) own ≡ of_page (next (shelf_tested s) (next (code_tested p code) (next (given_tested p (length p)) (Err NeededLength))))
   long_page code own =
       ap (λ (a : Answer). page_next a own) (long_head code) ∙ no_more NeededLength (shelf_tested s) (code_tested p code) (given_tested p (length p)) own
 
@@ -125,6 +124,6 @@ unfolding long_tested meant_code code_tested
 by_front s p q n code a b =
     ap₂ (λ (x : ℕ) (t : Bool).
     next (shelf_tested s)
-    (next (unless (eqb code 0x02 || eqb code 0x05) PageCode (unless (eqb x code) PageCode Accepted)) (next (unless t PageLength Accepted) (Refused NeededLength))))
+    (next (unless (eqb code 0x02 || eqb code 0x05) PageCode (unless (eqb x code) PageCode (Ok tt))) (next (unless t PageLength (Ok tt)) (Err NeededLength))))
     a
     (ap (λ (f : List ℕ). eqb n (big f + 4)) b)

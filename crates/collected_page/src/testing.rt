@@ -4,50 +4,50 @@ ghost use Rattle.std.specs.Prelude.{◌≡◌, ◌≤◌, length};
 ghost use Rattle.collected_page.specs.Meant.{other_tested, meant_code, long_tested};
 
 use page::header;
-use refusals::{Answer, Refusal};
+use refusals::Refusal;
 
 // Where another code is meant.
-pub fn test_other(shelf: &[u8], page: &[u8]) -> Answer
+pub fn test_other(shelf: &[u8], page: &[u8]) -> Result<(), Refusal>
     ensures { result ≡ other_tested shelf.now page.now }
 {
     let formed = page::testing::shelf(shelf);
-    let Answer::Accepted = formed else {
+    let Ok(()) = formed else {
         return formed;
     };
     let size = header::test_size(page);
-    let Answer::Accepted = size else {
+    let Ok(()) = size else {
         return size;
     };
-    Answer::Refused(Refusal::PageCode)
+    Err(Refusal::PageCode)
 }
 
 // Whether a page with this code acts, and this one has it.
-fn test_meant(page: &[u8], code: u8) -> Answer
+fn test_meant(page: &[u8], code: u8) -> Result<(), Refusal>
     requires { 4 ≤ length page.now }
     ensures { result ≡ meant_code page.now code }
 {
     if (code == control_page::testing::CODE) | (code == threshold_page_out::testing::CODE) {
         return header::test_code(page, code);
     }
-    Answer::Refused(Refusal::PageCode)
+    Err(Refusal::PageCode)
 }
 
 // Of n bytes, more than any shelf needs.
-pub fn test_long(shelf: &[u8], page: &[u8], n: u32, code: u8) -> Answer
+pub fn test_long(shelf: &[u8], page: &[u8], n: u32, code: u8) -> Result<(), Refusal>
     requires { 4 ≤ length page.now }
     ensures { result ≡ long_tested shelf.now page.now n code }
 {
     let formed = page::testing::shelf(shelf);
-    let Answer::Accepted = formed else {
+    let Ok(()) = formed else {
         return formed;
     };
     let meant = test_meant(page, code);
-    let Answer::Accepted = meant else {
+    let Ok(()) = meant else {
         return meant;
     };
     let said = header::test_said(page, n as usize);
-    let Answer::Accepted = said else {
+    let Ok(()) = said else {
         return said;
     };
-    Answer::Refused(Refusal::NeededLength)
+    Err(Refusal::NeededLength)
 }

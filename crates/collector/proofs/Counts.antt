@@ -1,4 +1,5 @@
 -- Counts that stop. Assumes nothing.
+use Rattle.std.specs.Prelude.{min}
 use mathlib.Core.Path.{◌≡◌, sym, ap, ◌∙◌}
 use mathlib.Core.List.{List}
 use Prim.Native.Nat.{ℕ, ◌+◌, ◌<◌, ◌≤◌}
@@ -27,6 +28,12 @@ module _ (n m : ℕ) where
       by_case (leb n m)
       (λ e. let h = leb-true n m e in let q = pick_yes (leb n m) n m e in (omega (arith, q), omega (arith, q)))
       (λ e. let h = leb-false n m e in let q = pick_no (leb n m) n m e in (omega (arith, q), omega (arith, q)))
+
+pub least : (n m : ℕ) {r : ℕ} → r ≡ min n m → r ≡ at_most n m
+least n m e =
+    by_case (leb n m)
+    (λ t. let h = leb-true n m t in let q = pick_yes (leb n m) n m t in omega (arith, e))
+    (λ t. let h = leb-false n m t in let q = pick_no (leb n m) n m t in omega (arith, e))
 
 pub still_below : (i n m : ℕ) → i < n → i < m → i < at_most n m
 still_below i n m a b =

@@ -10,7 +10,7 @@ use Rattle.bits.specs.Rows.{bytes_at, put_bytes}
 use Rattle.bits.proofs.Rows.{bytes_there}
 use Rattle.bits.proofs.BytesPut.{bytes_again_lem}
 use Rattle.collector.specs.Collector.{most_kept, most_counted, room_place, HasRoom, at_most, count_of, counted, kept, collected}
-use Rattle.collector.proofs.Counts.{most_bound, first_bytes}
+use Rattle.collector.proofs.Counts.{first_bytes}
 
 module _ (c : List ℕ) where
   pub count_told : {k r : ℕ} → k ≡ big (four_at c 0) → r ≡ at_most k most_counted → r ≡ count_of c
@@ -27,9 +27,6 @@ module _ (c : List ℕ) where
   count_put n q e = e ∙ ap (put_four c 0) q
 
   module _ (n : ℕ) (x : List ℕ) where
-    pub room_for : HasRoom c → n ≤ most_kept → {m : ℕ} → m ≡ at_most (length x) (most_kept - n) → (m ≤ length x) × (room_place + n + m ≤ length c)
-    room_for h l e = let b = most_bound (length x) (most_kept - n) in (omega (arith, e, b.1), omega (arith, e, b.0, h, l))
-
     pub kept_told : {m : ℕ} {o : List ℕ} → m ≡ at_most (length x) (most_kept - n) → o ≡ put_bytes c (room_place + n) (bytes_at x 0 m) → o ≡ kept c n x
     unfolding kept
     kept_told q e = e ∙ ap (put_bytes c (room_place + n)) (ap (bytes_at x 0) q ∙ first_bytes x (most_kept - n))

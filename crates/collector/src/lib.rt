@@ -21,7 +21,7 @@ pub const LENGTH: usize = ROOM as usize + limits::LONGEST_SLOT_PAGE;
 fn at_most(n: usize, most: u32) -> u32
     ensures { result ≡ at_most n most }
 {
-    if n <= most as usize { n as u32 } else { most }
+    n.min(most as usize) as u32
 }
 
 // A block that says more means the most.
@@ -29,7 +29,7 @@ pub fn count(collector: &[u8]) -> u32
     requires { HasRoom collector.now }
     ensures { result ≡ count_of collector.now }
 {
-    at_most(bits::big32_at(collector, 0) as usize, MOST_COUNTED)
+    bits::big32_at(collector, 0).min(MOST_COUNTED)
 }
 
 // The first n bytes of the room.

@@ -1,4 +1,5 @@
 -- What an accepted page says, part by part. Assumes nothing.
+use Rattle.std.specs.Prelude.{Ok}
 use mathlib.Core.Path.{◌≡◌, sym, ◌∙◌}
 use mathlib.Core.Bool.{true, false, ◌&&◌}
 use mathlib.Core.List.{List}
@@ -10,14 +11,13 @@ use borrow.Author.Tests.{eqb-true, not-false}
 use Rattle.bits.specs.Bits.{printable}
 use Rattle.bits.proofs.Logic.{and_left, and_right, first_fails}
 use Rattle.element.specs.Types.{served}
-use Rattle.refusals.specs.declared.PageAnswer.TheVariants.{Accepted}
 use Rattle.shelf.specs.Limits.{most_types, most_elements, most_in_type, most_text}
 use Rattle.page.specs.Header.{length_said}
 use Rattle.configuration_page.specs.Page.{header_place}
 use Rattle.configuration_page.specs.Read.{types_on, header_byte, total_before, text_place_on, needed_length, fixed_offends, header_offends, text_offends, offends, first_offence, configuration_read}
 use Rattle.configuration_page.proofs.Refusals.{fixed_at, header_at, text_at, headers_there, read_parts}
 
-module _ (p : List ℕ) (a : configuration_read p ≡ Accepted) where
+module _ (p : List ℕ) (a : configuration_read p ≡ Ok tt) where
   passed : (get_or p 0 0 ≡ 0x01) × (length_said p ≡ true) × (length p ≡ needed_length p) × (first_offence p ≡ length p)
   passed = read_parts p a
 

@@ -1,5 +1,6 @@
 -- A shelf and its front have the same configuration page; so every page that is accepted is one that some well-formed shelf writes.
 -- Assumes nothing.
+use Rattle.std.specs.Prelude.{Ok}
 use mathlib.Core.Path.{◌≡◌, sym, ap, ap₂, ◌∙◌}
 use mathlib.Core.Bool.{true}
 use mathlib.Core.List.{List, ◌++◌}
@@ -9,7 +10,6 @@ use Rattle.bits.specs.Numbers.{Bytes}
 use Rattle.bits.specs.Rows.{joined, bytes_at}
 use Rattle.bits.proofs.Rows.{joined_same, bytes_same}
 use Rattle.bits.proofs.RowStarts.{start_same}
-use Rattle.refusals.specs.declared.PageAnswer.TheVariants.{Accepted}
 use Rattle.shelf.specs.Limits.{most_types, text_place}
 use Rattle.shelf.specs.Types.{types_of, text_length}
 use Rattle.shelf_formed.specs.Formed.{front_formed, well_formed}
@@ -65,7 +65,7 @@ module _ (s : List ℕ) (h : front_formed s ≡ true) where
       (ap (joined (type_header c)) (types_same s) ∙ joined_same (type_header c) (type_header s) n same_header)
 
 -- so what a well-formed shelf couldn't have written is refused
-pub some_writes : (p : List ℕ) → Bytes p → configuration_read p ≡ Accepted → (s : List ℕ) × (well_formed s ≡ true) × (configuration_page s ≡ p)
+pub some_writes : (p : List ℕ) → Bytes p → configuration_read p ≡ Ok tt → (s : List ℕ) × (well_formed s ≡ true) × (configuration_page s ≡ p)
 some_writes p b a =
     let e = again p b a in
     let s = some_shelf (configuration_of p) in

@@ -1,10 +1,10 @@
 -- The parts of a page, and those of a configuration, put one after the other. Assumes nothing.
 use mathlib.Core.Path.{◌≡◌, refl, sym, ap₂, ◌∙◌}
 use mathlib.Core.List.{List, [], ◌∷◌, ◌++◌}
-use Prim.Native.Nat.{ℕ, ◌+◌, ◌<◌, ◌≤◌, ◌-◌, ◌/◌, ◌%◌}
+use Prim.Native.Nat.{ℕ, ◌+◌, ◌<◌, ◌≤◌, ◌-◌}
 use native.Mathlib.Omega.{arith}
 use mathlib.Core.Bool.{true}
-use lib.ListN.{length, length-append}
+use lib.ListN.{length, get_or, length-append}
 use Rattle.bits.specs.Numbers.{bytes}
 use Rattle.bits.specs.Places.{four_at, put_four, fours_put}
 use Rattle.bits.specs.Rows.{joined, bytes_at, put_bytes, rows_put}
@@ -66,15 +66,15 @@ length-page s =
     rows_end (text_start s) (text_length s) (text_of s) (text_rows s) (fixed_part s n ++ joined (type_header s) (types_of s)) (texts_begin s n) (types_of s)
 
 -- from what the calls say: the fixed part, and the page whole
-pub fixed_placed : (s : List ℕ) (n : ℕ) (out : List ℕ) {k : ℕ} {f o1 o2 o3 o4 : List ℕ}
-    → 48 ≤ length out → k ≡ types_of s → o1 ≡ put_four out 0 (0x01 ∷ 0 ∷ n / 256 % 256 ∷ n % 256 ∷ []) → f ≡ four_at s 0 → o2 ≡ put_four o1 4 f
+pub fixed_placed : (s : List ℕ) (n : ℕ) (out : List ℕ) {k : ℕ} {g f o1 o2 o3 o4 : List ℕ}
+    → 48 ≤ length out → k ≡ types_of s → g ≡ bytes 4 n → o1 ≡ put_four out 0 (0x01 ∷ 0 ∷ get_or g 2 0 ∷ get_or g 3 0 ∷ []) → f ≡ four_at s 0 → o2 ≡ put_four o1 4 f
     → o3 ≡ put_four o2 8 (0x11 ∷ 0 ∷ k ∷ 0x24 ∷ []) → o4 ≡ put_bytes o3 12 (bytes_at s 4 36) → o4 ≡ placed (fixed_part s n) out
 unfolding fixed_part
-fixed_placed s n out {k} {f} {o1} {o2} {o3} h ek e1 ef e2 e3 e4 =
+fixed_placed s n out {k} {g} {f} {o1} {o2} {o3} h ek eg e1 ef e2 e3 e4 =
     let a : List ℕ = 0x01 ∷ 0 ∷ bytes 2 n in
     let b : List ℕ = a ++ four_at s 0 in
     let types : List ℕ = 0x11 ∷ 0 ∷ types_of s ∷ 0x24 ∷ [] in
-    let p1 : o1 ≡ placed a out = e1 ∙ four_behind [] out a 0 refl refl (omega arith) in
+    let p1 : o1 ≡ placed a out = e1 ∙ rw eg (four_behind [] out a 0 refl refl (omega arith)) in
     let p2 : o2 ≡ placed b out = e2 ∙ rw (p1, ef) (four_behind a out (four_at s 0) 4 refl refl (omega arith)) in
     let p3 : o3 ≡ placed (b ++ types) out = e3 ∙ rw (p2, ek) (four_behind b out types 8 refl refl (omega arith)) in
     e4 ∙ rw p3 (put_behind (b ++ types) out (bytes_at s 4 36) 12 refl (rw (length-bytes_at s 4 36) (omega arith)))

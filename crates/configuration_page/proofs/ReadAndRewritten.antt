@@ -1,4 +1,5 @@
 -- What an accepted page tells is a well-formed configuration, and its page is that page. Assumes nothing.
+use Rattle.std.specs.Prelude.{Ok}
 use mathlib.Core.Path.{◌≡◌, refl, sym, ap, ap₂, ◌∙◌}
 use mathlib.Core.Bool.{true}
 use mathlib.Core.List.{List, [], ◌∷◌, ◌++◌}
@@ -21,7 +22,6 @@ use Rattle.bits.proofs.RowStarts.{start_first, start_step, start_behind, start_s
 use Rattle.bits.proofs.Sums.{sum_same}
 use Rattle.bits.proofs.Widths.{bytes_big}
 use Rattle.element.specs.Types.{served}
-use Rattle.refusals.specs.declared.PageAnswer.TheVariants.{Accepted}
 use Rattle.shelf.specs.Limits.{most_types, most_elements, most_in_type, most_text, type_size, type_place, text_place, element_place}
 use Rattle.shelf.specs.Types.{types_of, type_code, type_count, text_length, before, elements_of}
 use Rattle.shelf_formed.specs.Formed.{head_formed, text_byte_formed, text_formed, type_formed, type_byte_empty, type_empty, slot_formed, types_formed, front_formed, configuration_formed}
@@ -45,7 +45,7 @@ past_type p t h =
     let text = each_joined (λ b. b ≡ 0) (one_told p t) most_text (λ i l. (past_text p t i h, tt)) in
     (past_byte p t 0 h, (past_byte p t 1 h, (past_byte p t 3 h, (refl, text))))
 
-module _ (p : List ℕ) (a : configuration_read p ≡ Accepted) where
+module _ (p : List ℕ) (a : configuration_read p ≡ Ok tt) where
   module _ (t : ℕ) (h : t < types_on p) where
     below : t < most_types
     below = omega (arith, few_types p a)
@@ -213,6 +213,6 @@ module _ (p : List ℕ) (a : configuration_read p ≡ Accepted) where
         ∙ bytes_whole p (text_place_on p n) (needed_passed p a)
 
 -- so what a reading handed back is well formed, and writing it again is the same bytes
-pub again : (p : List ℕ) → Bytes p → configuration_read p ≡ Accepted
+pub again : (p : List ℕ) → Bytes p → configuration_read p ≡ Ok tt
     → (configuration_formed (configuration_of p) ≡ true) × (configuration_page (configuration_of p) ≡ p)
 again p b a = (formed_again p a, page_again_lem p a b)

@@ -1,4 +1,5 @@
 -- What a page tells of a type that it has and past its last, and where the text of each starts. Assumes nothing.
+use Rattle.std.specs.Prelude.{Ok}
 use mathlib.Core.Path.{◌≡◌, sym, ap, ◌∙◌}
 use mathlib.Core.List.{List, [], ◌∷◌, ◌++◌}
 use Prim.Native.Nat.{ℕ, ◌+◌, ◌*◌, ◌-◌, ◌<◌, ◌≤◌}
@@ -15,7 +16,6 @@ use Rattle.bits.proofs.Parts.{zeros_behind}
 use Rattle.bits.proofs.Rows.{joined_same}
 use Rattle.bits.proofs.RowStarts.{row_in, start_bound, start_same}
 use Rattle.bits.proofs.Sums.{sum_same, sum_past}
-use Rattle.refusals.specs.declared.PageAnswer.TheVariants.{Accepted}
 use Rattle.shelf.specs.Limits.{most_types, most_text}
 use Rattle.configuration_page.specs.Page.{header_place}
 use Rattle.configuration_page.specs.Read.{types_on, header_byte, text_place_on, configuration_read}
@@ -80,7 +80,7 @@ told_text p t h =
     (joined_same (one_told p t) (one_at p (told_start p t)) n (λ i l. ap (λ (b : ℕ). b ∷ []) (text_byte_lem p t i l)))
 
 -- an accepted page has all its texts, and none is too long
-module _ (p : List ℕ) (a : configuration_read p ≡ Accepted) where
+module _ (p : List ℕ) (a : configuration_read p ≡ Ok tt) where
   pub few_types : types_on p ≤ most_types
   few_types = leb-true (types_on p) most_types (types_passed p a).1
 

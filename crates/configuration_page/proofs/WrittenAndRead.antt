@@ -1,4 +1,5 @@
 -- The page of a well-formed front is accepted, and tells that front. Assumes nothing.
+use Rattle.std.specs.Prelude.{Ok}
 use mathlib.Core.Path.{◌≡◌, refl, sym, ap, ap₂, ◌∙◌}
 use mathlib.Core.Bool.{true, false, not}
 use mathlib.Core.List.{List, [], ◌∷◌, ◌++◌, append-nil}
@@ -20,7 +21,6 @@ use Rattle.bits.proofs.Parts.{pieces, get_behind, bytes_split, bytes_rows}
 use Rattle.bits.proofs.Rows.{joined_same, bytes_get, bytes_there, bytes_same, four_bytes}
 use Rattle.bits.proofs.Sums.{sum_part}
 use Rattle.bits.proofs.Widths.{big_bytes}
-use Rattle.refusals.specs.declared.PageAnswer.TheVariants.{Accepted}
 use Rattle.shelf.specs.Limits.{most_types, most_elements, most_text, type_size, type_place, text_place, element_place}
 use Rattle.shelf.specs.Types.{types_of, type_count, text_length, before, elements_of}
 use Rattle.shelf_formed.specs.Formed.{front_formed, well_formed, configuration_formed}
@@ -136,7 +136,7 @@ module _ (s : List ℕ) (w : front_formed s ≡ true) where
           ∙ ap text_offends (page_texts s i)
           ∙ text_fine i (omega (arith, headers_end s (configuration_length s - 4), length-append head (joined (text_of s) n)))
 
-  accepted : configuration_read (configuration_page s) ≡ Accepted
+  accepted : configuration_read (configuration_page s) ≡ Ok tt
   unfolding first_offence fixed_part
   accepted =
       let p = configuration_page s in
@@ -247,16 +247,16 @@ module _ (s : List ℕ) (w : front_formed s ≡ true) where
 
   -- a front is read back as it was
   pub read_back : element_place 0 ≤ length s
-      → (configuration_read (configuration_page s) ≡ Accepted) × (configuration_of (configuration_page s) ≡ take (element_place 0) s)
+      → (configuration_read (configuration_page s) ≡ Ok tt) × (configuration_of (configuration_page s) ≡ take (element_place 0) s)
   read_back l = (accepted, told_front ∙ bytes_there s 0 (element_place 0) l)
 
 -- and so are a well-formed shelf's, and a well-formed configuration
 pub shelf_back : (s : List ℕ) → well_formed s ≡ true
-    → (configuration_read (configuration_page s) ≡ Accepted) × (configuration_of (configuration_page s) ≡ take (element_place 0) s)
+    → (configuration_read (configuration_page s) ≡ Ok tt) × (configuration_of (configuration_page s) ≡ take (element_place 0) s)
 shelf_back s w = read_back s (front_formed_lem s w) (omega (arith, length-formed s w))
 
 pub configuration_back : (c : List ℕ) → configuration_formed c ≡ true
-    → (configuration_read (configuration_page c) ≡ Accepted) × (configuration_of (configuration_page c) ≡ c)
+    → (configuration_read (configuration_page c) ≡ Ok tt) × (configuration_of (configuration_page c) ≡ c)
 unfolding configuration_formed
 configuration_back c w =
     let l = eqb-true (length c) (element_place 0) (and_right (front_formed c) (eqb (length c) (element_place 0)) w) in

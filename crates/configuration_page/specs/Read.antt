@@ -1,17 +1,15 @@
 -- The tests of a configuration page p. A byte past the end reads as 0. Assumes nothing.
-use Rattle.std.specs.Prelude.{Bool, false, not, ◌&&◌, ◌||◌, List, ℕ, ◌+◌, ◌-◌, ◌/◌, ◌%◌, eqb, leb, ltb, length, get_or}
+use Rattle.std.specs.Prelude.{Bool, false, not, ◌&&◌, ◌||◌, List, ℕ, ◌+◌, ◌-◌, ◌/◌, ◌%◌, eqb, leb, ltb, length, get_or, Ok}
 use Rattle.bits.specs.Bits.{printable}
 use Rattle.bits.specs.Choice.{pick, first_below, sum_below}
 use Rattle.bits.specs.Rows.{row_start}
 use Rattle.element.specs.Types.{served}
 use Rattle.refusals.specs.declared.Refusal.TheVariants.{NeededLength}
-use Rattle.refusals.specs.declared.Answer.{Answer}
-use Rattle.refusals.specs.declared.PageAnswer.{PageAnswer}
-use Rattle.refusals.specs.declared.Answer.TheVariants.{Accepted}
 use Rattle.refusals.specs.Outcomes.{unless, offence_tested, page_next}
 use Rattle.shelf.specs.Limits.{most_types, most_elements, most_in_type, most_text}
 use Rattle.page.specs.Header.{framed, length_tested}
 use Rattle.configuration_page.specs.Page.{header_place}
+use Rattle.refusals.specs.Answers.{Answer, PageAnswer}
 
 abbrev pub types_on : List ℕ → ℕ
 types_on p = get_or p 10 0
@@ -59,21 +57,17 @@ offends p k =
     (header_offends p ((k - header_place 0) / 4) ((k - header_place 0) % 4) (get_or p k 0))
     (text_offends (get_or p k 0)))
 
--- the first offending byte of the first n in page order, or n
-unfoldable pub offence_below : List ℕ → ℕ → ℕ
-offence_below p n = first_below (offends p) n
-
 -- the first offending byte in page order; the length of the page if there is none
 unfoldable pub first_offence : List ℕ → ℕ
 first_offence p = first_below (offends p) (length p)
 
 -- 12: fewer than n bytes
 abbrev pub room_tested : List ℕ → ℕ → Answer
-room_tested p n = unless (leb n (length p)) NeededLength Accepted
+room_tested p n = unless (leb n (length p)) NeededLength (Ok tt)
 
 -- 6: a byte offends, and the first is told
 unfoldable pub bytes_tested : List ℕ → PageAnswer
-bytes_tested p = offence_tested (first_offence p) (length p) Accepted
+bytes_tested p = offence_tested (first_offence p) (length p) (Ok tt)
 
 -- 2, 3, 4: the frame; 12: not the length that the type list needs; 6: a byte offends
 unfoldable pub configuration_read : List ℕ → PageAnswer

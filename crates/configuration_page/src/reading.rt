@@ -2,22 +2,21 @@
 //
 // Nothing is read before the page's length says that it is there: first the bytes before the headers, then the headers, then the
 // texts.
-ghost use Rattle.std.specs.Prelude.{◌≡◌, true, ◌+◌, ◌<◌, ◌≤◌, length};
-ghost use Rattle.bits.specs.Choice.{first_below};
+ghost use Rattle.std.specs.Prelude.{◌≡◌, true, ◌+◌, ◌<◌, ◌≤◌, length, None, Ok};
+ghost use Rattle.bits.specs.Found.{found_below};
 ghost use Rattle.bits.specs.Places.{four_at};
 ghost use Rattle.bits.specs.Rows.{put_bytes, rows_put};
-ghost use Rattle.refusals.specs.declared.PageAnswer.TheVariants.{Accepted};
 ghost use Rattle.refusals.specs.Outcomes.{placed, HandsBack};
 ghost use Rattle.shelf.specs.Limits.{most_types, type_place, element_place, HasTypes};
 ghost use Rattle.page.specs.Header.{length_said, length_tested};
 ghost use Rattle.configuration_page.specs.Page.{header_place};
-ghost use Rattle.configuration_page.specs.Read.{types_on, needed_length, text_offends, offends, offence_below, room_tested, bytes_tested, configuration_read};
+ghost use Rattle.configuration_page.specs.Read.{types_on, needed_length, text_offends, offends, room_tested, bytes_tested, configuration_read};
 ghost use Rattle.configuration_page.specs.Configuration.{told_byte, head_told, told_start, type_told, configuration_of};
 
 use crate::writing;
 use element::types::Kind;
 use page::header;
-use refusals::{Answer, PageAnswer, Refusal};
+use refusals::{PageRefusal, Refusal};
 use shelf::{limits, texts};
 
 // Where a page has the number of types.
@@ -45,49 +44,46 @@ fn needed_length(page: &[u8]) -> u32
 {
     let n = types_on(page);
     let mut bytes = writing::header_place(n);
-    let mut t: u16 = 0;
-    while t < n {
+    for t in 0..n {
         let e = header_on(page, t);
         bytes += e[3] as u32;
-        t += 1;
     }
     bytes
 }
 
-// The first offending byte before the headers, or where these start. What a well-formed shelf couldn't have written offends.
-fn fixed_offence(page: &[u8]) -> u32
+// The first offending byte before the headers. What a well-formed shelf couldn't have written offends.
+fn fixed_offence(page: &[u8]) -> Option<u32>
     requires { header_place 0 ≤ length page.now }
-    ensures { result ≡ offence_below page.now (header_place 0) }
+    ensures { result ≡ found_below (offends page.now) (header_place 0) }
 {
     if bits::byte_at(page, 1) != 0 {
-        return 1;
+        return Some(1);
     }
     if bits::byte_at(page, 8) != writing::PROCESS {
-        return 8;
+        return Some(8);
     }
     if bits::byte_at(page, 9) != 0 {
-        return 9;
+        return Some(9);
     }
     let types = types_on(page);
     if !((1 <= types) & (types <= limits::MOST_TYPES)) {
-        return TYPES;
+        return Some(TYPES);
     }
     if bits::byte_at(page, 11) != writing::DESCRIPTOR {
-        return 11;
+        return Some(11);
     }
-    writing::FIRST_HEADER
+    None
 }
 
-// The first up to the end of the n headers, or that end. A total too large is told at the count that passes it.
-fn headers_offence(page: &[u8], n: u16) -> u32
+// The first up to the end of the n headers. A total too large is told at the count that passes it.
+fn headers_offence(page: &[u8], n: u16) -> Option<u32>
     requires n_value { n ≡ types_on page.now }
     requires n_in_bounds { header_place n ≤ length page.now }
-    requires header_place_value { offence_below page.now (header_place 0) ≡ header_place 0 }
-    ensures { result ≡ offence_below page.now (header_place n) }
+    requires none_before { found_below (offends page.now) (header_place 0) ≡ None }
+    ensures { result ≡ found_below (offends page.now) (header_place n) }
 {
     let mut elements: u16 = 0;
-    let mut t: u16 = 0;
-    while t < n {
+    for t in 0..n {
         let e = header_on(page, t);
         elements += e[1] as u16;
         let k = bits::first_of(
@@ -97,11 +93,10 @@ fn headers_offence(page: &[u8], n: u16) -> u32
             e[3] as u16 <= limits::MOST_TEXT,
         );
         if k < 4 {
-            return writing::header_place(t) + k as u32;
+            return Some(writing::header_place(t) + k as u32);
         }
-        t += 1;
     }
-    writing::header_place(n)
+    None
 }
 
 fn text_offends(b: u8) -> bool
@@ -110,88 +105,85 @@ fn text_offends(b: u8) -> bool
     !bits::is_printable(b)
 }
 
-// The first of n bytes, or n. The texts start at `from`, and nothing before them offends.
-fn texts_offence(page: &[u8], from: u32, n: u32) -> u32
+// The first of n bytes. The texts start at `from`, and nothing before them offends.
+fn texts_offence(page: &[u8], from: u32, n: u32) -> Option<u32>
     requires from_value { from ≡ header_place (types_on page.now) }
     requires n_in_bounds { n ≤ length page.now }
     requires from_le_n { from ≤ n }
-    requires from_value_2 { offence_below page.now from ≡ from }
-    ensures { result ≡ offence_below page.now n }
+    requires none_before { found_below (offends page.now) from ≡ None }
+    ensures { result ≡ found_below (offends page.now) n }
 {
-    let mut k = from;
-    while k < n {
+    for k in from..n {
         if text_offends(bits::byte_at(page, k)) {
-            return k;
+            return Some(k);
         }
-        k += 1;
     }
-    k
+    None
 }
 
-// The first offending byte of n, or n.
-fn first_offence(page: &[u8], n: u32) -> u32
+// The first offending byte of n.
+fn first_offence(page: &[u8], n: u32) -> Option<u32>
     requires page_bound { header_place (types_on page.now) ≤ n }
     requires n_in_bounds { n ≤ length page.now }
-    ensures { result ≡ first_below (offends page.now) n }
+    ensures { result ≡ found_below (offends page.now) n }
 {
-    let fixed = fixed_offence(page);
-    if fixed != writing::FIRST_HEADER {
-        return fixed;
+    if let Some(k) = fixed_offence(page) {
+        return Some(k);
     }
     let types = types_on(page);
-    let end = writing::header_place(types);
-    let header = headers_offence(page, types);
-    if header != end {
-        return header;
+    if let Some(k) = headers_offence(page, types) {
+        return Some(k);
     }
-    texts_offence(page, end, n)
+    texts_offence(page, writing::header_place(types), n)
 }
 
 // The bytes before the headers, or those up to the end of them.
-fn test_room(page: &[u8], n: u32) -> Answer
+fn test_room(page: &[u8], n: u32) -> Result<(), Refusal>
     ensures { result ≡ room_tested page.now n }
 {
     if page.len() < n as usize {
-        return Answer::Refused(Refusal::NeededLength);
+        return Err(Refusal::NeededLength);
     }
-    Answer::Accepted
+    Ok(())
 }
 
 // The length that the type list needs, which is known once all headers are there.
-fn test_length(page: &[u8]) -> Answer
+fn test_length(page: &[u8]) -> Result<(), Refusal>
     ensures { result ≡ length_tested page.now (needed_length page.now) }
 {
     let fixed = test_room(page, writing::FIRST_HEADER);
-    let Answer::Accepted = fixed else {
+    let Ok(()) = fixed else {
         return fixed;
     };
     let headers = test_room(page, writing::header_place(types_on(page)));
-    let Answer::Accepted = headers else {
+    let Ok(()) = headers else {
         return headers;
     };
     header::test_length(page, needed_length(page))
 }
 
 // The page's own tests.
-fn test_bytes(page: &[u8]) -> PageAnswer
+fn test_bytes(page: &[u8]) -> Result<(), PageRefusal>
     requires page_value { length_said page.now ≡ true }
     requires page_len { length page.now ≡ needed_length page.now }
     ensures { result ≡ bytes_tested page.now }
 {
-    let n = page.len() as u32;
-    PageAnswer::searched(first_offence(page, n), n)
+    match first_offence(page, page.len() as u32) {
+        Some(k) => refusals::not_allowed(k),
+        None => Ok(()),
+    }
 }
 
-pub fn test(page: &[u8]) -> PageAnswer
+pub fn test(page: &[u8]) -> Result<(), PageRefusal>
     ensures { result ≡ configuration_read page.now }
 {
     let frame = header::test_frame(page, writing::CODE);
-    let Answer::Accepted = frame else {
-        return PageAnswer::of(frame);
+    let Ok(()) = frame else {
+        return refusals::of_page(frame);
     };
     let length = test_length(page);
-    let Answer::Accepted = length else {
-        return PageAnswer::of(length);
+    let Ok(()) = length else {
+        return refusals::of_page(length);
     };
     test_bytes(page)
 }
@@ -211,7 +203,7 @@ fn head_told(page: &[u8], t: u16) -> [u8; 4]
 
 // Puts type t, whose text starts here, and tells how long that is.
 fn put_type(page: &[u8], t: u16, start: u32, configuration: &mut [u8]) -> u32
-    requires page_value { configuration_read page.now ≡ Accepted }
+    requires page_value { configuration_read page.now ≡ Ok tt }
     requires t_lt_most_types { t < most_types }
     requires start_value { start ≡ told_start page.now t }
     requires has_types { HasTypes configuration.old }
@@ -233,21 +225,19 @@ fn put_type(page: &[u8], t: u16, start: u32, configuration: &mut [u8]) -> u32
 }
 
 fn put_types(page: &[u8], configuration: &mut [u8])
-    requires page_value { configuration_read page.now ≡ Accepted }
+    requires page_value { configuration_read page.now ≡ Ok tt }
     requires has_types { HasTypes configuration.old }
     ensures { configuration.new ≡ rows_put type_place (type_told page.now) configuration.old most_types }
 {
     let mut start = writing::header_place(types_on(page));
-    let mut t: u16 = 0;
-    while t < limits::MOST_TYPES {
+    for t in 0..limits::MOST_TYPES {
         start += put_type(page, t, start, configuration);
-        t += 1;
     }
 }
 
 // The configuration that an accepted page tells.
 fn hand_over(page: &[u8], configuration: &mut [u8])
-    requires page_value { configuration_read page.now ≡ Accepted }
+    requires page_value { configuration_read page.now ≡ Ok tt }
     requires configuration_len { length configuration.old ≡ element_place 0 }
     ensures { configuration.new ≡ placed (configuration_of page.now) configuration.old }
 {
@@ -264,11 +254,11 @@ fn hand_over(page: &[u8], configuration: &mut [u8])
     put_types(page, configuration);
 }
 
-pub fn read(page: &[u8], configuration: &mut [u8; limits::CONFIGURATION]) -> PageAnswer
+pub fn read(page: &[u8], configuration: &mut [u8; limits::CONFIGURATION]) -> Result<(), PageRefusal>
     ensures { HandsBack (configuration_read page.now) (configuration_of page.now) configuration.old result configuration.new }
 {
     let tested = test(page);
-    let PageAnswer::Accepted = tested else {
+    let Ok(()) = tested else {
         return tested;
     };
     hand_over(page, configuration);

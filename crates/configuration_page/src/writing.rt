@@ -1,17 +1,16 @@
 // The configuration page, written. A shelf block and a configuration have the same front, so either can be lent.
 //
 // A caller has opened it before, so that nothing of it is tested again.
-ghost use Rattle.std.specs.Prelude.{◌≡◌, ◌≤◌, length};
+ghost use Rattle.std.specs.Prelude.{◌≡◌, ◌≤◌, length, Ok};
 ghost use Rattle.bits.specs.Places.{fours_put};
 ghost use Rattle.bits.specs.Rows.{rows_put};
-ghost use Rattle.refusals.specs.declared.Answer.TheVariants.{Accepted};
 ghost use Rattle.refusals.specs.Outcomes.{placed, WritesPage};
 ghost use Rattle.shelf.specs.Limits.{most_types, HasTypes};
 ghost use Rattle.shelf.specs.Types.{types_of};
 ghost use Rattle.shelf_formed.specs.Formed.{HasFront};
 ghost use Rattle.configuration_page.specs.Page.{header_place, type_header, text_of, text_start, configuration_length, fixed_part, configuration_page};
 
-use refusals::Written;
+use refusals::Refusal;
 use shelf::{limits, types};
 
 pub const CODE: u8 = 0x01;
@@ -38,10 +37,8 @@ fn length(front: &[u8]) -> u32
 {
     let n = types::count(front);
     let mut bytes = header_place(n);
-    let mut t: u16 = 0;
-    while t < n {
+    for t in 0..n {
         bytes += types::text_length(front, t) as u32;
-        t += 1;
     }
     bytes
 }
@@ -52,7 +49,8 @@ fn put_fixed(front: &[u8], n: u32, out: &mut [u8])
     requires header_place_in_bounds { header_place 0 ≤ length out.old }
     ensures { out.new ≡ placed (fixed_part front.now n) out.old }
 {
-    let first = [CODE, 0, (n / 256 % 256) as u8, (n % 256) as u8];
+    let said = bits::four_of(n);
+    let first = [CODE, 0, said[2], said[3]];
     let third = [PROCESS, 0, bits::byte_at(front, limits::TYPES), DESCRIPTOR];
     bits::put_four(out, 0, first);
     bits::put_four(out, 4, bits::four_at(front, limits::GENERATION));
@@ -72,8 +70,7 @@ fn put_headers(front: &[u8], n: u16, out: &mut [u8])
     requires n_in_bounds { header_place n ≤ length out.old }
     ensures { out.new ≡ fours_put header_place (type_header front.now) out.old n }
 {
-    let mut t: u16 = 0;
-    while t < n {
+    for t in 0..n {
         let header = [
             types::code_of(front, t),
             types::elements_of(front, t),
@@ -81,7 +78,6 @@ fn put_headers(front: &[u8], n: u16, out: &mut [u8])
             types::text_length(front, t),
         ];
         bits::put_four(out, header_place(t), header);
-        t += 1;
     }
 }
 
@@ -93,12 +89,10 @@ fn put_texts(front: &[u8], n: u16, out: &mut [u8])
     ensures { out.new ≡ rows_put (text_start front.now) (text_of front.now) out.old n }
 {
     let mut at = header_place(n);
-    let mut t: u16 = 0;
-    while t < n {
+    for t in 0..n {
         let bytes = types::text_length(front, t) as u32;
         bits::copy(front, limits::text_place(t), out, at, bytes);
         at += bytes;
-        t += 1;
     }
 }
 
@@ -115,13 +109,13 @@ fn put(front: &[u8], bytes: u32, out: &mut [u8])
     put_texts(front, n, out);
 }
 
-pub fn write(front: &[u8], out: &mut [u8]) -> Written
+pub fn write(front: &[u8], out: &mut [u8]) -> Result<u32, Refusal>
     requires { HasFront front.now }
-    ensures { WritesPage Accepted (configuration_page front.now) out.old result out.new }
+    ensures { WritesPage (Ok tt) (configuration_page front.now) out.old result out.new }
 {
     let bytes = length(front);
-    let fit = Written::fit(bytes, out.len());
-    let Written::Bytes(_) = fit else {
+    let fit = refusals::fit(bytes, out.len());
+    let Ok(_) = fit else {
         return fit;
     };
     put(front, bytes, out);

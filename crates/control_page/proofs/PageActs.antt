@@ -1,4 +1,5 @@
 -- What a control page makes of one element and of all, from what the calls say. Assumes nothing.
+use Rattle.std.specs.Prelude.{Ok, Err}
 use mathlib.Core.Path.{◌≡◌, refl, sym, ap, ◌∙◌}
 use mathlib.Core.Bool.{true, false}
 use mathlib.Core.List.{List}
@@ -15,9 +16,7 @@ use Rattle.element.specs.Settings.{settings_of, settings_bytes}
 use Rattle.element.specs.Requests.{acted}
 use Rattle.element_control.specs.Control.{selected, control_of, chosen, settled}
 use Rattle.element_control.proofs.Acting.{settled_length, own_acts, overall_acts, settled_by, settled_alone}
-use Rattle.refusals.specs.declared.PageAnswer.{PageAnswer}
 use Rattle.refusals.specs.declared.PageRefusal.{PageRefusal}
-use Rattle.refusals.specs.declared.PageAnswer.TheVariants.{Accepted, Refused}
 use Rattle.shelf.specs.Limits.{element_place, HasElement}
 use Rattle.shelf.specs.Types.{elements_of}
 use Rattle.shelf.specs.Elements.{settings_at, settings_put}
@@ -33,6 +32,7 @@ use Rattle.page.proofs.ElementSlots.{places_alike, element_there}
 use Rattle.control_page.specs.Tests.{control_tested, valid}
 use Rattle.control_page.proofs.ValidPage.{valid_headed}
 use Rattle.control_page.specs.Brought.{acting_at, settings_after, brought_to, after}
+use Rattle.refusals.specs.Answers.{PageAnswer}
 
 -- one element
 module _ (s : List ℕ) (j : ℕ) where
@@ -102,14 +102,14 @@ module _ (s p : List ℕ) where
 
   -- the call as a whole
   module _ {a : PageAnswer} (h : a ≡ control_tested s p) where
-    pub refused_after : {r : PageRefusal} → a ≡ Refused r → s ≡ after s p
+    pub refused_after : {r : PageRefusal} → a ≡ Err r → s ≡ after s p
     unfolding valid
     refused_after u = sym (rw (← h, u))
 
-    pub accepted_room : a ≡ Accepted → HasPage s p
+    pub accepted_room : a ≡ Ok tt → HasPage s p
     unfolding valid
     accepted_room u = let v : valid s p ≡ true = rw (← h, u) in tested_has s p 0x02 (valid_headed s p v)
 
-    pub accepted_after : {x : List ℕ} → a ≡ Accepted → x ≡ with_settings s (brought_to s p) → x ≡ after s p
+    pub accepted_after : {x : List ℕ} → a ≡ Ok tt → x ≡ with_settings s (brought_to s p) → x ≡ after s p
     unfolding valid
     accepted_after u e = e ∙ sym (rw (← h, u))

@@ -1,15 +1,14 @@
 -- Which control pages a shelf accepts. Assumes nothing.
-use Rattle.std.specs.Prelude.{Bool, List, [], ◌∷◌, ℕ, get_or}
+use Rattle.std.specs.Prelude.{Bool, List, [], ◌∷◌, ℕ, get_or, Ok}
 use Rattle.bits.specs.Choice.{first_below}
 use Rattle.bits.specs.Bits.{only}
 use Rattle.bits.specs.Places.{four_at}
 use Rattle.element_control.specs.Control.{allows}
-use Rattle.refusals.specs.declared.PageAnswer.{PageAnswer}
-use Rattle.refusals.specs.declared.Answer.TheVariants.{Accepted}
 use Rattle.refusals.specs.Outcomes.{offence_tested, page_next, accepts}
 use Rattle.page.specs.Slots.{slots_of, slot_at, slot_place}
 use Rattle.page.specs.Offends.{offends_on}
 use Rattle.page.specs.Header.{page_tested}
+use Rattle.refusals.specs.Answers.{PageAnswer}
 
 -- in byte 1 bits 7 to 4 are tested, and bits 3 to 0 ignored
 abbrev pub first_allows : List ℕ → Bool
@@ -29,7 +28,7 @@ offence s p n = first_below (offends s p) (slot_place n)
 
 -- 6: a byte of a page with n slots is refused, and the first is told
 unfoldable pub bytes_tested : List ℕ → List ℕ → ℕ → PageAnswer
-bytes_tested s p n = offence_tested (offence s p n) (slot_place n) Accepted
+bytes_tested s p n = offence_tested (offence s p n) (slot_place n) (Ok tt)
 
 -- 1 to 4, 12, 5: the shelf and the header; 6: the bytes
 unfoldable pub control_tested : List ℕ → List ℕ → PageAnswer

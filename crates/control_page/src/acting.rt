@@ -50,11 +50,8 @@ pub fn act(shelf: &mut [u8], page: &[u8])
 {
     let n = types::all_elements(shelf);
     let mut run = types::first_run(shelf);
-    let mut j: u16 = 0;
-    while j < n {
-        let here = types::run_to(shelf, run, j);
-        run = here;
-        act_on(shelf, page, places::places_in(here, j), j);
-        j += 1;
+    for j in 0..n {
+        run = types::run_to(shelf, run, j);
+        act_on(shelf, page, places::places_in(run, j), j);
     }
 }

@@ -8,16 +8,16 @@ ghost use Rattle.refusals.specs.Outcomes.{Changes};
 ghost use Rattle.control_page.specs.Tests.{control_tested};
 ghost use Rattle.control_page.specs.Brought.{after};
 
-use refusals::PageAnswer;
+use refusals::PageRefusal;
 
 // The page is tested whole before the shelf is touched.
-pub fn apply(shelf: &mut [u8], page: &[u8]) -> PageAnswer
+pub fn apply(shelf: &mut [u8], page: &[u8]) -> Result<(), PageRefusal>
     ensures { Changes (control_tested shelf.old page.now) (after shelf.old page.now) result shelf.new }
 {
     let tested = testing::test(shelf, page);
-    let PageAnswer::Accepted = tested else {
+    let Ok(()) = tested else {
         return tested;
     };
     acting::act(shelf, page);
-    PageAnswer::Accepted
+    Ok(())
 }

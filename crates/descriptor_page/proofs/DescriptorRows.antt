@@ -1,7 +1,7 @@
 -- A name and its descriptor: how long they are, and how a descriptor is put. The descriptors of a page are rows, one after the other.
 -- Assumes nothing.
 use mathlib.Core.Path.{◌≡◌, refl, sym, ap, ap₂, ◌∙◌}
-use mathlib.Core.List.{List, [], ◌∷◌}
+use mathlib.Core.List.{List, ◌∷◌}
 use Prim.Native.Nat.{ℕ, ◌+◌, ◌*◌, ◌/◌, ◌%◌, ◌<◌, ◌≤◌}
 use native.Mathlib.Omega.{arith}
 use lib.ListN.{length}
@@ -59,20 +59,28 @@ short_page f n h = start_bound 8 (width f) 36 n (λ i l. omega (arith, h i l))
 pub names_short : (s : List ℕ) (first n : ℕ) → start_of (name_in s first) n ≤ 8 + 36 * n
 names_short s first n = short_page (name_in s first) n (λ i l. name_short s first i)
 
+-- the four bytes of a small number
+four_small : (n : ℕ) → n ≤ most_text → bytes 4 n ≡ 0 ∷ 0 ∷ bytes 2 n
+four_small n h =
+    let a : n / 256 / 256 / 256 % 256 ≡ 0 = omega arith in
+    let b : n / 256 / 256 % 256 ≡ 0 = omega arith in
+    rw (a, b)
+
 -- from what the calls say: a descriptor is put
 module _ (s : List ℕ) (at : ℕ) (out : List ℕ) (place : ℕ) where
   pub descriptor_room : place + length (descriptor (name_at s at)) ≤ length out → place + 4 + name_length s at ≤ length out
   descriptor_room h = omega (arith, length-descriptor (name_at s at), length_name s at)
 
-  pub descriptor_put : {n : ℕ} {o1 o2 : List ℕ} → place + length (descriptor (name_at s at)) ≤ length out → n ≡ name_length s at
-      → o1 ≡ put_four out place (0 ∷ 0 ∷ n / 256 % 256 ∷ n % 256 ∷ []) → o2 ≡ put_bytes o1 (place + 4) (bytes_at s at n)
+  pub descriptor_put : {n : ℕ} {h o1 o2 : List ℕ} → place + length (descriptor (name_at s at)) ≤ length out → n ≡ name_length s at
+      → h ≡ bytes 4 n → o1 ≡ put_four out place h → o2 ≡ put_bytes o1 (place + 4) (bytes_at s at n)
       → o2 ≡ put_bytes out place (descriptor (name_at s at))
   unfolding descriptor
-  descriptor_put {n} h e e1 e2 =
+  descriptor_put {n} h e eh e1 e2 =
       let x = name_at s at in
       let head : List ℕ = 0 ∷ 0 ∷ bytes 2 (length x) in
       let l : n ≡ length x = e ∙ sym (length_name s at) in
-      let q = e1 ∙ ap (λ (m : ℕ). put_four out place (0 ∷ 0 ∷ bytes 2 m)) l ∙ four_put_lem out place head refl in
+      let small = four_small n (omega (arith, e, name_bound s at)) in
+      let q = e1 ∙ ap (put_four out place) (eh ∙ small ∙ ap (λ (m : ℕ). 0 ∷ 0 ∷ bytes 2 m) l) ∙ four_put_lem out place head refl in
       e2
       ∙ ap₂ (λ (o r : List ℕ). put_bytes o (place + 4) r) q (name_bytes s at e)
       ∙ put_two out head x place (place + 4) refl (omega (arith, descriptor_room h, length_name s at))

@@ -1,4 +1,5 @@
 -- A written page passes the tests of a header, and each descriptor is read back. Assumes nothing.
+use Rattle.std.specs.Prelude.{Ok}
 use mathlib.Core.Path.{◌≡◌, refl, sym, ap, ap₂, ◌∙◌}
 use mathlib.Core.List.{List, [], ◌∷◌, ◌++◌, append-nil}
 use Prim.Native.Nat.{ℕ, ◌+◌, ◌<◌, ◌≤◌}
@@ -12,7 +13,6 @@ use Rattle.bits.proofs.Parts.{get_behind}
 use Rattle.bits.proofs.Rows.{row_get, bytes_same, bytes_whole}
 use Rattle.bits.proofs.RowStarts.{start_first}
 use Rattle.bits.proofs.Widths.{big_bytes}
-use Rattle.refusals.specs.declared.Answer.TheVariants.{Accepted}
 use Rattle.shelf.specs.Limits.{most_types, most_elements, most_text}
 use Rattle.page.specs.Header.{framed, generation_tested, head_of}
 use Rattle.page.proofs.HeaderBothWays.{frame_written}
@@ -40,12 +40,12 @@ module _ (c : List ℕ) (f : ℕ → List ℕ) (n : ℕ) where
   unfolding descriptor_page
   own_zero = refl
 
-  pub frame_passes : n ≤ most_types + most_elements → ((i : ℕ) → i < n → length (f i) ≤ most_text) → framed page 0x07 ≡ Accepted
+  pub frame_passes : n ≤ most_types + most_elements → ((i : ℕ) → i < n → length (f i) ≤ most_text) → framed page 0x07 ≡ Ok tt
   unfolding descriptor_page
   frame_passes l h =
       frame_written c (joined (λ i. descriptor (f i)) n) 0x07 0 (start_of f n) (length-page c f n) (omega (arith, page_behind f n)) (omega (arith, short_page f n h))
 
-  pub generation_passes : generation_tested c page ≡ Accepted
+  pub generation_passes : generation_tested c page ≡ Ok tt
   unfolding descriptor_page
   generation_passes = sym (generation_passed c page refl)
 

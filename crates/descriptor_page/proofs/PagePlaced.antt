@@ -1,4 +1,5 @@
 -- The page put whole into an output buffer that holds it, and the page of a shelf. Assumes nothing.
+use Rattle.std.specs.Prelude.{Ok, Err, Some, None, Option}
 use mathlib.Core.Path.{◌≡◌, refl, sym, ap, ap₂, ◌∙◌}
 use mathlib.Core.List.{List}
 use Prim.Native.Nat.{ℕ, ◌+◌, ◌<◌, ◌≤◌}
@@ -9,14 +10,9 @@ use Rattle.bits.proofs.Rows.{rows_end}
 use Rattle.bits.proofs.RowStarts.{start_first, start_behind}
 use Rattle.bits.proofs.RowsPut.{rows_behind}
 use Rattle.refusals.specs.declared.Refusal.TheVariants.{ShelfNotWellFormed}
-use Rattle.refusals.specs.declared.Answer.TheVariants.{Accepted}
-use Rattle.refusals.specs.declared.Written.{Written}
-use Rattle.refusals.specs.declared.Written.TheVariants.{Refused}
 use Rattle.refusals.specs.Outcomes.{placed, WritesPage}
 use Rattle.shelf.specs.Limits.{element_place, HasTypes}
 use Rattle.shelf_formed.specs.declared.Sizes.{Sizes}
-use Rattle.shelf_formed.specs.declared.Opened.{Opened}
-use Rattle.shelf_formed.specs.declared.Opened.TheVariants.{Shelf, NotWellFormed}
 use Rattle.shelf_formed.specs.Formed.{opened}
 use Rattle.shelf_formed.proofs.FormedShelf.{few_types, few_elements}
 use Rattle.shelf_formed.proofs.ElementPut.{length-formed, shelf_there}
@@ -28,6 +24,7 @@ use Rattle.names.specs.Name.{name_in}
 use Rattle.names.specs.Names.{name_of}
 use Rattle.descriptor_page.specs.Page.{descriptor, width, start_of, descriptor_page, names_page, HasNames}
 use Rattle.descriptor_page.proofs.DescriptorRows.{descriptor_rows}
+use Rattle.refusals.specs.Answers.{Counted}
 
 -- behind a header of 8 bytes
 pub page_behind : (f : ℕ → List ℕ) (n : ℕ) → 8 ≤ start_of f n
@@ -52,11 +49,11 @@ module _ (c : List ℕ) (f : ℕ → List ℕ) (n : ℕ) where
       ∙ rows_behind (start_of f) (width f) row (descriptor_rows f) head (sym (start_first 8 (width f))) out n (omega (arith, e))
 
 -- a shelf, as it was opened
-module _ (s : List ℕ) {o : Opened} (h : o ≡ opened s) where
-  pub no_shelf : (out : List ℕ) → o ≡ NotWellFormed → WritesPage (shelf_tested s) (names_page s) out (Refused ShelfNotWellFormed) out
+module _ (s : List ℕ) {o : Option Sizes} (h : o ≡ opened s) where
+  pub no_shelf : (out : List ℕ) → o ≡ None → WritesPage (shelf_tested s) (names_page s) out (Err ShelfNotWellFormed) out
   no_shelf out u = rw (not_formed s (sym h ∙ u)) (refl, refl)
 
-  module _ {z : Sizes} (u : o ≡ Shelf z) where
+  module _ {z : Sizes} (u : o ≡ Some z) where
     pub shelf_sum : z.types + z.elements < 65536
     shelf_sum =
         let q = formed_sizes s (sym h ∙ u) in
@@ -78,6 +75,6 @@ module _ (s : List ℕ) {o : Opened} (h : o ≡ opened s) where
           let q = formed_sizes s (sym h ∙ u) in
           ap₂ (λ (k n : ℕ). descriptor_page s (name_in s k) n) (e ∙ ap element_place q.2) (slots_are s q.1 q.2)
 
-      pub shelf_written : (out : List ℕ) {w : Written} {r : List ℕ}
-          → WritesPage Accepted (descriptor_page s (name_in s first) (z.types + z.elements)) out w r → WritesPage (shelf_tested s) (names_page s) out w r
+      pub shelf_written : (out : List ℕ) {w : Counted} {r : List ℕ}
+          → WritesPage (Ok tt) (descriptor_page s (name_in s first) (z.types + z.elements)) out w r → WritesPage (shelf_tested s) (names_page s) out w r
       shelf_written out p = rw (formed_sizes s (sym h ∙ u)).0 (rw shelf_page at p)

@@ -1,7 +1,6 @@
 // The page of n names that stand in a block or a record, 32 bytes for each.
-ghost use Rattle.std.specs.Prelude.{◌≡◌, ◌+◌, ◌*◌, ◌≤◌, length};
+ghost use Rattle.std.specs.Prelude.{◌≡◌, ◌+◌, ◌*◌, ◌≤◌, length, Ok};
 ghost use Rattle.bits.specs.Rows.{put_bytes, rows_put};
-ghost use Rattle.refusals.specs.declared.Answer.TheVariants.{Accepted};
 ghost use Rattle.refusals.specs.Outcomes.{placed, WritesPage};
 ghost use Rattle.shelf.specs.Limits.{most_elements, most_text, element_place, HasTypes};
 ghost use Rattle.page.specs.Header.{shelf_tested};
@@ -10,9 +9,8 @@ ghost use Rattle.descriptor_page.specs.Page.{descriptor, start_of, descriptor_pa
 
 use names::name;
 use page::header;
-use refusals::{Refusal, Written};
+use refusals::Refusal;
 use shelf::limits;
-use shelf_formed::Opened;
 
 pub const CODE: u8 = 0x07;
 
@@ -32,10 +30,8 @@ fn length(names: &[u8], first: u32, n: u16) -> u32
     ensures { result ≡ start_of (name_in names.now first) n }
 {
     let mut bytes = FIRST;
-    let mut i: u16 = 0;
-    while i < n {
+    for i in 0..n {
         bytes += 4 + name::length_at(names, name_at(first, i));
-        i += 1;
     }
     bytes
 }
@@ -49,7 +45,7 @@ fn put_descriptor(names: &[u8], at: u32, out: &mut [u8], place: u32) -> u32
     ensures out_after { out.new ≡ put_bytes out.old place (descriptor (name_at names.now at)) }
 {
     let bytes = name::length_at(names, at);
-    let head = [0, 0, (bytes / 256 % 256) as u8, (bytes % 256) as u8];
+    let head = bits::four_of(bytes);
     bits::put_four(out, place, head);
     bits::copy(names, at, out, place + 4, bytes);
     4 + bytes
@@ -62,10 +58,8 @@ fn put_descriptors(names: &[u8], first: u32, n: u16, out: &mut [u8])
     ensures { out.new ≡ rows_put (start_of (name_in names.now first)) (λ i. descriptor (name_in names.now first i)) out.old n }
 {
     let mut place = FIRST;
-    let mut i: u16 = 0;
-    while i < n {
+    for i in 0..n {
         place += put_descriptor(names, name_at(first, i), out, place);
-        i += 1;
     }
 }
 
@@ -89,14 +83,14 @@ pub fn write(
     n: u16,
     bytes: u32,
     out: &mut [u8],
-) -> Written
+) -> Result<u32, Refusal>
     requires has_types { HasTypes configuration.now }
     requires has_names { HasNames names.now first n }
     requires bytes_value { bytes ≡ start_of (name_in names.now first) n }
-    ensures { WritesPage Accepted (descriptor_page configuration.now (name_in names.now first) n) out.old result out.new }
+    ensures { WritesPage (Ok tt) (descriptor_page configuration.now (name_in names.now first) n) out.old result out.new }
 {
-    let fit = Written::fit(bytes, out.len());
-    let Written::Bytes(_) = fit else {
+    let fit = refusals::fit(bytes, out.len());
+    let Ok(_) = fit else {
         return fit;
     };
     put(configuration, names, first, n, bytes, out);
@@ -104,12 +98,12 @@ pub fn write(
 }
 
 // The page of a shelf.
-pub fn write_shelf(shelf: &[u8], out: &mut [u8]) -> Written
+pub fn write_shelf(shelf: &[u8], out: &mut [u8]) -> Result<u32, Refusal>
     ensures { WritesPage (shelf_tested shelf.now) (names_page shelf.now) out.old result out.new }
 {
     let opened = shelf_formed::open_shelf(shelf);
-    let Opened::Shelf(sizes) = opened else {
-        return Written::Refused(Refusal::ShelfNotWellFormed);
+    let Some(sizes) = opened else {
+        return Err(Refusal::ShelfNotWellFormed);
     };
     let first = limits::element_place(sizes.elements);
     let n = sizes.types + sizes.elements;

@@ -1,4 +1,5 @@
 -- Where the descriptors of a page stand, and in which of them a byte does. Assumes nothing.
+use Rattle.std.specs.Prelude.{Err}
 use mathlib.Core.Path.{◌≡◌, refl, sym, ap, ◌∙◌}
 use mathlib.Core.Bool.{Bool, true, false, not, ◌&&◌}
 use mathlib.Core.List.{List}
@@ -15,7 +16,6 @@ use Rattle.bits.proofs.Ends.{part_is}
 use mir.Val.{Fits}
 use mir.Syntax.{w8}
 use Rattle.refusals.specs.declared.Refusal.TheVariants.{NeededLength}
-use Rattle.refusals.specs.declared.Answer.TheVariants.{Refused}
 use Rattle.page.specs.Header.{most_said, length_said, length_tested}
 use Rattle.page.proofs.HeaderTests.{says_most, length_differs}
 use Rattle.descriptor_record.specs.Read.{declared, place_on, descriptor_of, byte_offends, offends}
@@ -52,7 +52,7 @@ module _ (p : List ℕ) where
   in_page i n l e q h = rw (h, q, e) (place_in i n l)
 
   -- one that would start or end behind the page's end
-  pub too_long : (i n : ℕ) {k : ℕ} → i < n → k ≡ place_on p i → length p < k + 4 → Refused NeededLength ≡ length_tested p (place_on p n)
+  pub too_long : (i n : ℕ) {k : ℕ} → i < n → k ≡ place_on p i → length p < k + 4 → Err NeededLength ≡ length_tested p (place_on p n)
   too_long i n l e h = length_differs p (place_on p n) (λ q. omega (arith, place_in i n l))
 
   -- the byte j of descriptor i

@@ -1,4 +1,5 @@
 -- An Element Descriptor page that was accepted is written again as the same bytes. Assumes nothing.
+use Rattle.std.specs.Prelude.{Ok}
 use mathlib.Core.Path.{◌≡◌, refl, sym, ap, ◌∙◌}
 use mathlib.Core.Bool.{Bool, true, ◌||◌}
 use mathlib.Core.List.{List, ◌++◌}
@@ -14,8 +15,6 @@ use Rattle.bits.specs.Rows.{joined, bytes_at}
 use Rattle.bits.proofs.Logic.{by_case, below_all}
 use Rattle.bits.proofs.Rows.{joined_same, row_get}
 use Rattle.bits.proofs.RowStarts.{start_first, start_step}
-use Rattle.refusals.specs.declared.Answer.TheVariants.{Accepted}
-use Rattle.refusals.specs.declared.PageAnswer.TheVariants as page
 use Rattle.record_head.specs.Head.{record_head, count_tested}
 use Rattle.record_head.proofs.Counted.{count_back}
 use Rattle.shelf.specs.Limits.{most_text}
@@ -38,7 +37,7 @@ place_start p (suc i) =
     omega (arith, e, name_length_lem p i, start_step 8 (width (name_on p)) i)
 
 -- writing again what an accepted reading gave, whatever stands behind it
-module _ (c p rest : List ℕ) (a : names_read c p ≡ page.Accepted) where
+module _ (c p rest : List ℕ) (a : names_read c p ≡ Ok tt) where
   abbrev told : List ℕ
   told = names_record c p ++ rest
 
@@ -88,11 +87,11 @@ module _ (c p rest : List ℕ) (a : names_read c p ≡ page.Accepted) where
         let y : bytes_at p (at + 4) (length x) ≡ x = unfold name_on in ap (bytes_at p (at + 4)) n in
         ap (λ (q : ℕ). get_or p (q + k) 0) (sym (place_start p i)) ∙ descriptor_is p at x h z0 z1 b y k m
 
-  pub tested_again : record_tested c told ≡ Accepted
+  pub tested_again : record_tested c told ≡ Ok tt
   unfolding record_tested entries_tested entries_formed names_record
   tested_again =
       let n = slots_of c in
-      let k : count_tested told n ≡ Accepted = count_back 0 0 n (joined (λ i. padded (name_on p i)) n ++ rest) (omega (arith, few_slots c p a)) in
+      let k : count_tested told n ≡ (Ok tt) = count_back 0 0 n (joined (λ i. padded (name_on p i)) n ++ rest) (omega (arith, few_slots c p a)) in
       rw ((read_parts c p a).0, k, below_all (entry_formed told) n entry_formed_lem)
 
   pub page_again_lem : Bytes c → Bytes p → page_again c told ≡ p

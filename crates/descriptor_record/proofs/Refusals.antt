@@ -1,4 +1,5 @@
 -- An Element Descriptor page read: one refusal after the other, and what an accepted one says. Assumes nothing.
+use Rattle.std.specs.Prelude.{Some, None, Ok, Err}
 use mathlib.Core.Path.{◌≡◌, refl, sym, ap, ◌∙◌}
 use mathlib.Core.Bool.{true, false}
 use mathlib.Core.List.{List, [], ◌++◌, append-nil}
@@ -17,11 +18,9 @@ use Rattle.bits.proofs.Logic.{by_case, pick_yes, pick_no, and_both, below_all, f
 use Rattle.bits.proofs.Rows.{EndToEnd, length-bytes_at, bytes_get, bytes_whole, joined_same}
 use Rattle.bits.proofs.RowsPut.{four_behind, rows_alike, rows_behind}
 use Rattle.refusals.specs.declared.Refusal.{Refusal}
-use Rattle.refusals.specs.declared.Answer.{Answer}
-use Rattle.refusals.specs.declared.Answer.TheVariants.{Accepted, Refused}
-use Rattle.refusals.specs.declared.PageAnswer.{PageAnswer}
-use Rattle.refusals.specs.declared.PageAnswer.TheVariants as page
-use Rattle.refusals.specs.Outcomes.{next, placed, offence_tested}
+use Rattle.bits.specs.Found.{found_below}
+use Rattle.refusals.proofs.Searches.{offence_found, no_offence}
+use Rattle.refusals.specs.Outcomes.{next, placed, not_allowed_at, offence_tested}
 use Rattle.refusals.proofs.Stages.{stopped, gone_on}
 use Rattle.refusals.proofs.AcceptedTests.{held_both, held_page, held_offence}
 use Rattle.record_head.specs.Head.{record_head}
@@ -38,6 +37,7 @@ use Rattle.descriptor_record.specs.Rewritten.{entry_place}
 use Rattle.descriptor_record.specs.Read.{declared, place_on, byte_offends, offends, head_tested, bytes_tested, page_tested, names_read, name_on, names_record}
 use Rattle.descriptor_record.proofs.DescriptorPlaces.{said_small, place_up, place_in, offends_in, offends_first}
 use Rattle.descriptor_record.proofs.FirstOffence.{offends_zero, offends_length, offends_text}
+use Rattle.refusals.specs.Answers.{Answer, PageAnswer}
 
 -- the tests before the page's own
 module _ (c p : List ℕ) (n : ℕ) where
@@ -45,20 +45,20 @@ module _ (c p : List ℕ) (n : ℕ) where
   rest = next (length_tested p (place_on p n)) (generation_tested c p)
 
   module _ {a : Answer} (f : a ≡ framed p 0x07) where
-    pub frame_refused : {r : Refusal} → a ≡ Refused r → a ≡ head_tested c p n
+    pub frame_refused : {r : Refusal} → a ≡ Err r → a ≡ head_tested c p n
     unfolding head_tested
     frame_refused u = stopped (framed p 0x07) rest f u
 
-    module _ (u : a ≡ Accepted) where
+    module _ (u : a ≡ Ok tt) where
       pub said : length_said p ≡ true
       said = (frame_parts p 0x07 (sym f ∙ u)).1
 
       module _ {b : Answer} (l : b ≡ length_tested p (place_on p n)) where
-        pub length-refused : {r : Refusal} → b ≡ Refused r → b ≡ head_tested c p n
+        pub length-refused : {r : Refusal} → b ≡ Err r → b ≡ head_tested c p n
         unfolding head_tested
         length-refused v = gone_on (framed p 0x07) rest f u (stopped (length_tested p (place_on p n)) (generation_tested c p) l v)
 
-        module _ (v : b ≡ Accepted) where
+        module _ (v : b ≡ Ok tt) where
           pub has_header : 8 ≤ length p
           has_header = omega (arith, length-needed p (place_on p n) (sym l ∙ v), place_up p 0 n (omega arith))
 
@@ -67,20 +67,30 @@ module _ (c p : List ℕ) (n : ℕ) where
           generation_last g = gone_on (framed p 0x07) rest f u (gone_on (length_tested p (place_on p n)) (generation_tested c p) l v g)
 
   -- what they say once they are passed
-  pub head_parts : head_tested c p n ≡ Accepted → (framed p 0x07 ≡ Accepted) × (length p ≡ place_on p n) × (generation_on p ≡ generation_of c)
+  pub head_parts : head_tested c p n ≡ Ok tt → (framed p 0x07 ≡ Ok tt) × (length p ≡ place_on p n) × (generation_on p ≡ generation_of c)
   unfolding head_tested
   head_parts e =
       let h = held_both (framed p 0x07) rest e in
       let g = held_both (length_tested p (place_on p n)) (generation_tested c p) h.1 in
       (h.0, length-needed p (place_on p n) g.0, generation_tested_lem c p g.1)
 
-  pub bytes_there : ((i : ℕ) → Fits w8 (get_or p i 0)) → head_tested c p n ≡ Accepted → (length p ≡ place_on p n) × (length p ≤ most_said)
+  pub bytes_there : ((i : ℕ) → Fits w8 (get_or p i 0)) → head_tested c p n ≡ Ok tt → (length p ≡ place_on p n) × (length p ≤ most_said)
   bytes_there f e = let h = head_parts e in (h.1, said_small p f (frame_parts p 0x07 h.0).1)
 
 pub bytes_tested_lem : (p : List ℕ) (n : ℕ) {k m : ℕ} {r : PageAnswer} → length p ≡ place_on p n → m ≡ length p → k ≡ first_below (offends p n) (place_on p n)
-    → r ≡ offence_tested k m Accepted → r ≡ bytes_tested p n
+    → r ≡ offence_tested k m (Ok tt) → r ≡ bytes_tested p n
 unfolding bytes_tested
 bytes_tested_lem p n e q x h = h ∙ rw (x, q, e)
+
+-- and the search for the first offending byte
+module _ (p : List ℕ) (n : ℕ) {r : PageAnswer} where
+  pub bytes_found : {k : ℕ} → Some k ≡ found_below (offends p n) (place_on p n) → r ≡ not_allowed_at k → r ≡ bytes_tested p n
+  unfolding bytes_tested
+  bytes_found e q = offence_found (offends p n) (place_on p n) e q
+
+  pub bytes_passed : None ≡ found_below (offends p n) (place_on p n) → r ≡ Ok tt → r ≡ bytes_tested p n
+  unfolding bytes_tested
+  bytes_passed e q = no_offence (offends p n) (place_on p n) e q
 
 -- the name that a descriptor tells
 pub name_length_lem : (p : List ℕ) (i : ℕ) → length (name_on p i) ≡ declared p (place_on p i)
@@ -94,8 +104,8 @@ name_byte p i j l =
     ap (λ (y : List ℕ). get_or y j 0) (sym (append-nil x)) ∙ bytes_get p (place_on p i + 4) (declared p (place_on p i)) j [] l
 
 -- an accepted page
-module _ (c p : List ℕ) (a : names_read c p ≡ page.Accepted) where
-  pub read_parts : (configuration_formed c ≡ true) × (framed p 0x07 ≡ Accepted) × (length p ≡ place_on p (slots_of c)) × (generation_on p ≡ generation_of c)
+module _ (c p : List ℕ) (a : names_read c p ≡ Ok tt) where
+  pub read_parts : (configuration_formed c ≡ true) × (framed p 0x07 ≡ Ok tt) × (length p ≡ place_on p (slots_of c)) × (generation_on p ≡ generation_of c)
       × (first_below (offends p (slots_of c)) (place_on p (slots_of c)) ≡ place_on p (slots_of c))
   unfolding names_read page_tested bytes_tested
   read_parts =
@@ -103,7 +113,7 @@ module _ (c p : List ℕ) (a : names_read c p ≡ page.Accepted) where
       let h1 = configuration_passed c (page_tested c p n) a in
       let h2 = held_page (head_tested c p n) (bytes_tested p n) h1.1 in
       let h3 = head_parts c p n h2.0 in
-      let h4 = held_offence (first_below (offends p n) (place_on p n)) (place_on p n) Accepted h2.1 in
+      let h4 = held_offence (first_below (offends p n) (place_on p n)) (place_on p n) (Ok tt) h2.1 in
       (h1.0, h3.0, h3.1, h3.2, h4.0)
 
   pub read_front : HasFront c
@@ -167,7 +177,7 @@ name_put p r i {k} {b} {m} {t} ek h eb et em eo =
     eo ∙ rw em (ap (put_bytes r (entry_place i)) (bytes_whole t 32 w ∙ y ∙ ap (λ (j : ℕ). x ++ replicate (most_text - j) 0) (sym l)))
 
 -- the record of an accepted page: each entry is as long, so the head and one entry after the other are put
-module _ (c p : List ℕ) (a : names_read c p ≡ page.Accepted) where
+module _ (c p : List ℕ) (a : names_read c p ≡ Ok tt) where
   -- an entry, and zeros past the last
   abbrev pub entry : ℕ → List ℕ
   entry i = pick (ltb i (slots_of c)) (padded (name_on p i)) (replicate most_text 0)

@@ -1,4 +1,5 @@
 -- The Element Descriptor page of a well-formed shelf is accepted, and hands back the shelf's names. Assumes nothing.
+use Rattle.std.specs.Prelude.{Ok}
 use mathlib.Core.Path.{◌≡◌, refl, sym, ap, ◌∙◌}
 use mathlib.Core.Bool.{true, false, not}
 use mathlib.Core.List.{List, [], ◌++◌, append-nil}
@@ -16,7 +17,6 @@ use Rattle.bits.proofs.Logic.{by_case, fails, below_all, first_none}
 use Rattle.bits.proofs.Ends.{found, part_start, part_end, part_there}
 use Rattle.bits.proofs.Rows.{joined_same, bytes_get}
 use Rattle.bits.proofs.RowStarts.{start_first, start_step}
-use Rattle.refusals.specs.declared.PageAnswer.TheVariants as page
 use Rattle.record_head.specs.Head.{record_head}
 use Rattle.shelf.specs.Limits.{most_types, most_elements, most_text}
 use Rattle.shelf_formed.specs.Formed.{well_formed, configuration_formed}
@@ -102,7 +102,7 @@ module _ (c : List ℕ) (w : configuration_formed c ≡ true) (f : ℕ → List 
       let d : j < 4 + declared told (place_on told i) = omega (arith, place_next told i) in
       ap (offends told (slots_of c)) q ∙ fine_in i j m d)
 
-  pub names_read_lem : names_read c told ≡ page.Accepted
+  pub names_read_lem : names_read c told ≡ Ok tt
   unfolding names_read page_tested head_tested bytes_tested
   names_read_lem =
       let m = slots_of c in
@@ -125,7 +125,7 @@ module _ (s : List ℕ) (w : well_formed s ≡ true) where
       let g : four_at (front s) 0 ≡ four_at s 0 = rw (front_get s 0 (omega arith), front_get s 1 (omega arith), front_get s 2 (omega arith), front_get s 3 (omega arith)) in
       ap (descriptor_page (front s) (name_of s)) (slots_same s) ∙ page_same (front s) s (name_of s) (name_of s) (slots_of s) g (λ i l. refl)
 
-  pub told_read : names_read (front s) (names_page s) ≡ page.Accepted
+  pub told_read : names_read (front s) (names_page s) ≡ Ok tt
   told_read = ap (names_read (front s)) (sym page_told) ∙ names_read_lem (front s) (configuration_of_lem s w) (name_of s) (λ i l. always_name s i)
 
   -- each entry is the name of its slot, whatever stands behind the last

@@ -1,20 +1,18 @@
 -- The Element Descriptor page p read, with a configuration c: which pages are refused, and the record of the others. A byte past the end
 -- reads as 0. Assumes nothing.
-use Rattle.std.specs.Prelude.{Bool, false, not, ◌&&◌, List, ◌++◌, ℕ, zero, suc, ◌+◌, ◌-◌, eqb, leb, ltb, get_or}
+use Rattle.std.specs.Prelude.{Bool, false, not, ◌&&◌, List, ◌++◌, ℕ, zero, suc, ◌+◌, ◌-◌, eqb, leb, ltb, get_or, Ok}
 use Rattle.bits.specs.Bits.{printable}
 use Rattle.bits.specs.Choice.{pick, first_below}
 use Rattle.bits.specs.Numbers.{big}
 use Rattle.bits.specs.Places.{two_at}
 use Rattle.bits.specs.Rows.{joined, bytes_at}
-use Rattle.refusals.specs.declared.Answer.{Answer}
-use Rattle.refusals.specs.declared.Answer.TheVariants.{Accepted}
-use Rattle.refusals.specs.declared.PageAnswer.{PageAnswer}
 use Rattle.refusals.specs.Outcomes.{next, offence_tested, page_next}
 use Rattle.record_head.specs.Head.{record_head}
 use Rattle.shelf.specs.Limits.{most_text}
 use Rattle.page.specs.Slots.{slots_of}
 use Rattle.page.specs.Header.{configuration_tested, framed, length_tested, generation_tested}
 use Rattle.names.specs.Name.{padded}
+use Rattle.refusals.specs.Answers.{Answer, PageAnswer}
 
 -- the length of the text that the descriptor at k declares
 unfoldable pub declared : List ℕ → ℕ → ℕ
@@ -51,7 +49,7 @@ head_tested c p n = next (framed p 0x07) (next (length_tested p (place_on p n)) 
 
 -- 6: a byte offends, and the first is told
 unfoldable pub bytes_tested : List ℕ → ℕ → PageAnswer
-bytes_tested p n = offence_tested (first_below (offends p n) (place_on p n)) (place_on p n) Accepted
+bytes_tested p n = offence_tested (first_below (offends p n) (place_on p n)) (place_on p n) (Ok tt)
 
 -- 2 to 4, 12, 5, 6: a page of n descriptors
 unfoldable pub page_tested : List ℕ → List ℕ → ℕ → PageAnswer

@@ -1,9 +1,7 @@
 -- The Element Descriptor page written again from a record r. Assumes nothing.
-use Rattle.std.specs.Prelude.{Bool, ◌||◌, List, ℕ, ◌+◌, ◌*◌, eqb, ltb, get_or}
+use Rattle.std.specs.Prelude.{Bool, ◌||◌, List, ℕ, ◌+◌, ◌*◌, eqb, ltb, get_or, Ok}
 use Rattle.bits.specs.Choice.{all_below}
 use Rattle.refusals.specs.declared.Refusal.TheVariants.{NotAllowed}
-use Rattle.refusals.specs.declared.Answer.{Answer}
-use Rattle.refusals.specs.declared.Answer.TheVariants.{Accepted}
 use Rattle.refusals.specs.Outcomes.{unless, next}
 use Rattle.record_head.specs.Head.{count_tested}
 use Rattle.shelf.specs.Limits.{most_text}
@@ -11,6 +9,7 @@ use Rattle.page.specs.Slots.{slots_of}
 use Rattle.page.specs.Header.{configuration_tested}
 use Rattle.names.specs.Name.{name_length, name_in}
 use Rattle.descriptor_page.specs.Page.{width, start_of, descriptor_page}
+use Rattle.refusals.specs.Answers.{Answer}
 
 -- entry i stands behind the head
 abbrev pub entry_place : ℕ → ℕ
@@ -35,7 +34,7 @@ bytes_again r n = start_of (name_in r (entry_place 0)) n
 
 -- 9: another number of entries than n; 6: an entry that is no name with zeros behind it
 unfoldable pub entries_tested : List ℕ → ℕ → Answer
-entries_tested r n = next (count_tested r n) (unless (entries_formed r n) NotAllowed Accepted)
+entries_tested r n = next (count_tested r n) (unless (entries_formed r n) NotAllowed (Ok tt))
 
 -- 1: no configuration; 9, 6: the entries
 unfoldable pub record_tested : List ℕ → List ℕ → Answer

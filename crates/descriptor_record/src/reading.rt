@@ -2,10 +2,9 @@
 //
 // Where a descriptor starts is told by those before it. A first walk over them tests that they end where the page ends, so that the
 // others read only what is there.
-ghost use Rattle.std.specs.Prelude.{◌≡◌, true, false, ◌+◌, ◌*◌, ◌<◌, ◌≤◌, length};
-ghost use Rattle.bits.specs.Choice.{first_below};
+ghost use Rattle.std.specs.Prelude.{◌≡◌, true, false, ◌+◌, ◌*◌, ◌<◌, ◌≤◌, length, Ok};
+ghost use Rattle.bits.specs.Found.{found_below};
 ghost use Rattle.bits.specs.Rows.{put_bytes, rows_put};
-ghost use Rattle.refusals.specs.declared.PageAnswer.TheVariants.{Accepted};
 ghost use Rattle.refusals.specs.Outcomes.{placed, HandsBack};
 ghost use Rattle.shelf.specs.Limits.{most_types, most_elements, most_text, HasTypes};
 ghost use Rattle.page.specs.Slots.{slots_of};
@@ -16,7 +15,7 @@ ghost use Rattle.descriptor_record.specs.Read.{declared, place_on, byte_offends,
 
 use descriptor_page::writing;
 use page::{header, slots, testing};
-use refusals::{Answer, PageAnswer, Refusal, Tested};
+use refusals::{PageRefusal, Refusal};
 use shelf::{limits, texts};
 
 // A record of names has room for an entry of each slot.
@@ -35,117 +34,116 @@ fn declared_at(page: &[u8], k: u32) -> u32
 }
 
 // The length that n descriptors need.
-fn test_length(page: &[u8], n: u16) -> Answer
+fn test_length(page: &[u8], n: u16) -> Result<(), Refusal>
     requires { length_said page.now ≡ true }
     ensures { result ≡ length_tested page.now (place_on page.now n) }
 {
     let bytes = page.len() as u32;
     let mut k = writing::FIRST;
-    let mut i: u16 = 0;
-    while i < n {
+    for i in 0..n {
         if bytes < k + 4 {
-            return Answer::Refused(Refusal::NeededLength);
+            return Err(Refusal::NeededLength);
         }
         k += 4 + declared_at(page, k);
-        i += 1;
     }
     header::test_length(page, k)
 }
 
 // The tests before the page's own.
-fn test_head(configuration: &[u8], page: &[u8], n: u16) -> Answer
+fn test_head(configuration: &[u8], page: &[u8], n: u16) -> Result<(), Refusal>
     requires { HasTypes configuration.now }
     ensures { result ≡ head_tested configuration.now page.now n }
 {
     let frame = header::test_frame(page, writing::CODE);
-    let Answer::Accepted = frame else {
+    let Ok(()) = frame else {
         return frame;
     };
     let length = test_length(page, n);
-    let Answer::Accepted = length else {
+    let Ok(()) = length else {
         return length;
     };
     header::test_generation(configuration, page)
 }
 
-// The first offending byte of the descriptor at k, whose text has n bytes, counted from there; or how long it is.
-fn descriptor_offence(page: &[u8], k: u32, n: u32) -> u32
+// The first offending byte of the descriptor at k, whose text has n bytes, counted from there.
+fn descriptor_offence(page: &[u8], k: u32, n: u32) -> Option<u32>
     requires n_value { n ≡ declared page.now k }
     requires n_in_bounds { k + (4 + n) ≤ length page.now }
     requires page_len_bound { length page.now ≤ most_said }
-    ensures { result ≡ first_below (byte_offends page.now k) (4 + n) }
+    ensures { result ≡ found_below (byte_offends page.now k) (4 + n) }
 {
     if bits::byte_at(page, k) != 0 {
-        return 0;
+        return Some(0);
     }
     if bits::byte_at(page, k + 1) != 0 {
-        return 1;
+        return Some(1);
     }
     if n > limits::MOST_TEXT as u32 {
-        return 2;
+        return Some(2);
     }
-    4 + bits::printable_run(page, k + 4, n)
+    let run = bits::printable_run(page, k + 4, n);
+    if run < n { Some(4 + run) } else { None }
 }
 
-// The first of all, or where the descriptors end. Nothing before them offends.
-fn descriptors_offence(page: &[u8], n: u16) -> u32
+// The first of all. Nothing before the descriptors offends.
+fn descriptors_offence(page: &[u8], n: u16) -> Option<u32>
     requires page_len { length page.now ≡ place_on page.now n }
     requires page_len_bound { length page.now ≤ most_said }
     requires n_value { offends page.now n 1 ≡ false }
-    ensures { result ≡ first_below (offends page.now n) (place_on page.now n) }
+    ensures { result ≡ found_below (offends page.now n) (place_on page.now n) }
 {
     let mut k = writing::FIRST;
-    let mut i: u16 = 0;
-    while i < n {
+    for i in 0..n {
         let text = declared_at(page, k);
-        let j = descriptor_offence(page, k, text);
-        if j < 4 + text {
-            return k + j;
+        if let Some(j) = descriptor_offence(page, k, text) {
+            return Some(k + j);
         }
         k += 4 + text;
-        i += 1;
     }
-    k
+    None
 }
 
-fn first_offence(page: &[u8], n: u16) -> u32
+fn first_offence(page: &[u8], n: u16) -> Option<u32>
     requires page_len { length page.now ≡ place_on page.now n }
     requires page_len_bound { length page.now ≤ most_said }
-    ensures { result ≡ first_below (offends page.now n) (place_on page.now n) }
+    ensures { result ≡ found_below (offends page.now n) (place_on page.now n) }
 {
     if bits::byte_at(page, 1) != 0 {
-        return 1;
+        return Some(1);
     }
     descriptors_offence(page, n)
 }
 
 // The page's own tests.
-fn test_bytes(page: &[u8], n: u16) -> PageAnswer
+fn test_bytes(page: &[u8], n: u16) -> Result<(), PageRefusal>
     requires page_len { length page.now ≡ place_on page.now n }
     requires page_len_bound { length page.now ≤ most_said }
     ensures { result ≡ bytes_tested page.now n }
 {
-    PageAnswer::searched(first_offence(page, n), page.len() as u32)
+    match first_offence(page, n) {
+        Some(k) => refusals::not_allowed(k),
+        None => Ok(()),
+    }
 }
 
 // A page of n descriptors, its header and then its bytes.
-fn test_page(configuration: &[u8], page: &[u8], n: u16) -> PageAnswer
+fn test_page(configuration: &[u8], page: &[u8], n: u16) -> Result<(), PageRefusal>
     requires { HasTypes configuration.now }
     ensures { result ≡ page_tested configuration.now page.now n }
 {
     let head = test_head(configuration, page, n);
-    let Answer::Accepted = head else {
-        return PageAnswer::of(head);
+    let Ok(()) = head else {
+        return refusals::of_page(head);
     };
     test_bytes(page, n)
 }
 
-pub fn test(configuration: &[u8], page: &[u8]) -> PageAnswer
+pub fn test(configuration: &[u8], page: &[u8]) -> Result<(), PageRefusal>
     ensures { result ≡ names_read configuration.now page.now }
 {
     let configured = testing::configuration_slots(configuration);
-    let Tested::Slots(n) = configured else {
-        return PageAnswer::of(configured.answer());
+    let Ok(n) = configured else {
+        return refusals::of_page(configured.and(Ok(())));
     };
     test_page(configuration, page, n)
 }
@@ -173,21 +171,19 @@ fn put_name(page: &[u8], k: u32, i: u16, fields: &mut [u8; LENGTH]) -> u32
 }
 
 fn put_names(configuration: &[u8], page: &[u8], n: u16, fields: &mut [u8; LENGTH])
-    requires page_value { names_read configuration.now page.now ≡ Accepted }
+    requires page_value { names_read configuration.now page.now ≡ Ok tt }
     requires n_value { n ≡ slots_of configuration.now }
     ensures { fields.new ≡ rows_put entry_place (λ i. padded (name_on page.now i)) fields.old n }
 {
     let mut k = writing::FIRST;
-    let mut i: u16 = 0;
-    while i < n {
+    for i in 0..n {
         k += put_name(page, k, i, fields);
-        i += 1;
     }
 }
 
 // The record that an accepted page tells.
 fn hand_over(configuration: &[u8], page: &[u8], fields: &mut [u8; LENGTH])
-    requires { names_read configuration.now page.now ≡ Accepted }
+    requires { names_read configuration.now page.now ≡ Ok tt }
     ensures { fields.new ≡ placed (names_record configuration.now page.now) fields.old }
 {
     let n = slots::count(configuration);
@@ -195,11 +191,11 @@ fn hand_over(configuration: &[u8], page: &[u8], fields: &mut [u8; LENGTH])
     put_names(configuration, page, n, fields);
 }
 
-pub fn read(configuration: &[u8], page: &[u8], fields: &mut [u8; LENGTH]) -> PageAnswer
+pub fn read(configuration: &[u8], page: &[u8], fields: &mut [u8; LENGTH]) -> Result<(), PageRefusal>
     ensures { HandsBack (names_read configuration.now page.now) (names_record configuration.now page.now) fields.old result fields.new }
 {
     let tested = test(configuration, page);
-    let PageAnswer::Accepted = tested else {
+    let Ok(()) = tested else {
         return tested;
     };
     hand_over(configuration, page, fields);

@@ -1,7 +1,7 @@
 // The page written again from a record. The test of the entries counts the bytes of the page.
-ghost use Rattle.std.specs.Prelude.{◌≡◌, true, ◌+◌, ◌<◌, ◌≤◌};
+ghost use Rattle.std.specs.Prelude.{◌≡◌, true, ◌+◌, ◌<◌, ◌≤◌, Some, None};
 ghost use Rattle.bits.specs.Choice.{pick};
-ghost use Rattle.refusals.specs.Outcomes.{with_bytes, WritesPage};
+ghost use Rattle.refusals.specs.Outcomes.{telling, WritesPage};
 ghost use Rattle.shelf.specs.Limits.{most_types, most_elements, most_text};
 ghost use Rattle.names.specs.Name.{name_length};
 ghost use Rattle.page.specs.Slots.{slots_of};
@@ -11,7 +11,7 @@ use crate::reading;
 use descriptor_page::writing;
 use names::name;
 use page::{slots, testing};
-use refusals::{Answer, Refusal, Tested, Written};
+use refusals::Refusal;
 use shelf::limits;
 
 // Zeros stand behind the name of entry i, which has n bytes.
@@ -21,73 +21,69 @@ fn is_ended(fields: &[u8; reading::LENGTH], i: u16, n: u32) -> bool
     ensures { result ≡ entry_formed fields.now i }
 {
     let at = writing::name_at(reading::FIRST_ENTRY, i);
-    let mut k = n;
-    while k < limits::MOST_TEXT as u32 {
+    for k in n..limits::MOST_TEXT as u32 {
         if bits::byte_at(fields, at + k) != 0 {
             return false;
         }
-        k += 1;
     }
     true
 }
 
-// How long the descriptor of entry i is, or 0 if that is no name with zeros behind it.
-fn entry_size(fields: &[u8; reading::LENGTH], i: u16) -> u32
+// How long the descriptor of entry i is, if that is a name with zeros behind it.
+fn entry_size(fields: &[u8; reading::LENGTH], i: u16) -> Option<u32>
     requires { i < most_types + most_elements }
-    ensures { result ≡ pick (entry_formed fields.now i) (entry_size fields.now i) 0 }
+    ensures { result ≡ pick (entry_formed fields.now i) (Some (entry_size fields.now i)) None }
 {
     let n = name::length_at(fields, writing::name_at(reading::FIRST_ENTRY, i));
-    if is_ended(fields, i, n) { 4 + n } else { 0 }
+    if is_ended(fields, i, n) {
+        Some(4 + n)
+    } else {
+        None
+    }
 }
 
-// How long the page of n entries is, or 0 if one of them is not so.
-fn page_size(fields: &[u8; reading::LENGTH], n: u16) -> u32
+// How long the page of n entries is, if each of them is so.
+fn page_size(fields: &[u8; reading::LENGTH], n: u16) -> Option<u32>
     requires { n ≤ most_types + most_elements }
-    ensures { result ≡ pick (entries_formed fields.now n) (bytes_again fields.now n) 0 }
+    ensures { result ≡ pick (entries_formed fields.now n) (Some (bytes_again fields.now n)) None }
 {
     let mut bytes = writing::FIRST;
-    let mut i: u16 = 0;
-    while i < n {
-        let size = entry_size(fields, i);
-        if size == 0 {
-            return 0;
-        }
-        bytes += size;
-        i += 1;
+    for i in 0..n {
+        bytes += entry_size(fields, i)?;
     }
-    bytes
+    Some(bytes)
 }
 
-fn test_entries(fields: &[u8; reading::LENGTH], n: u16) -> Written
+fn test_entries(fields: &[u8; reading::LENGTH], n: u16) -> Result<u32, Refusal>
     requires { n ≤ most_types + most_elements }
-    ensures { result ≡ with_bytes (entries_tested fields.now n) (bytes_again fields.now n) }
+    ensures { result ≡ telling (entries_tested fields.now n) (bytes_again fields.now n) }
 {
     let count = record_head::test_count(fields, n);
-    let Answer::Accepted = count else {
-        return Written::refused(count);
+    let Ok(()) = count else {
+        return count.and(Ok(0));
     };
-    let bytes = page_size(fields, n);
-    if bytes == 0 {
-        return Written::Refused(Refusal::NotAllowed);
-    }
-    Written::Bytes(bytes)
+    page_size(fields, n).ok_or(Refusal::NotAllowed)
 }
 
-fn test(configuration: &[u8], fields: &[u8; reading::LENGTH]) -> Written
-    ensures { result ≡ with_bytes (record_tested configuration.now fields.now) (bytes_again fields.now (slots_of configuration.now)) }
+fn test(configuration: &[u8], fields: &[u8; reading::LENGTH]) -> Result<u32, Refusal>
+    ensures { result ≡ telling (record_tested configuration.now fields.now) (bytes_again fields.now (slots_of configuration.now)) }
 {
     let configured = testing::configuration_slots(configuration);
-    let Tested::Slots(n) = configured else {
-        return Written::refused(configured.answer());
+    let Ok(n) = configured else {
+        return configured.and(Ok(0));
     };
     test_entries(fields, n)
 }
 
-pub fn write(configuration: &[u8], fields: &[u8; reading::LENGTH], out: &mut [u8]) -> Written
+pub fn write(
+    configuration: &[u8],
+    fields: &[u8; reading::LENGTH],
+    out: &mut [u8],
+) -> Result<u32, Refusal>
     ensures { WritesPage (record_tested configuration.now fields.now) (page_again configuration.now fields.now) out.old result out.new }
 {
     let tested = test(configuration, fields);
-    let Written::Bytes(bytes) = tested else {
+    let Ok(bytes) = tested else {
         return tested;
     };
     let n = slots::count(configuration);

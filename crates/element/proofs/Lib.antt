@@ -1,4 +1,5 @@
 pub mod Flags
+pub mod KindNamed
 pub mod SettingsBothWays
 pub mod Calls
 pub mod ThresholdsTaken

@@ -1,8 +1,9 @@
 -- The element types that are served: the rules of each, and what follows from them. Assumes nothing.
-use Rattle.std.specs.Prelude.{Bool, ◌&&◌, ◌||◌, List, [], ◌∷◌, ℕ, ◌-◌, ◌/◌, ◌%◌, eqb, leb}
+use Rattle.std.specs.Prelude.{Bool, Option, Some, None, ◌&&◌, ◌||◌, List, [], ◌∷◌, ℕ, ◌-◌, ◌/◌, ◌%◌, eqb, leb}
 use Rattle.bits.specs.Bits.{bit_of, bit, mask_of, num}
 use Rattle.bits.specs.Choice.{pick}
 use Rattle.element.specs.declared.types.LowOrder.TheVariants.{Any, WarningAbove, CriticalAbove}
+use Rattle.element.specs.declared.types.TypeRules.{TypeRules}
 use Rattle.element.specs.declared.layout.Layout.{Layout}
 use Rattle.element.specs.declared.settings.Settings.{Settings}
 use Rattle.element.specs.declared.verdict.Verdict.{Verdict}
@@ -182,8 +183,35 @@ rules_of Temperature = temperature
 rules_of Voltage = voltage
 rules_of Current = current
 
+-- what the code is told of them
+abbrev pub rules_told : Kind → TypeRules
+rules_told k = record {
+  code = (rules_of k).code;
+  layout = (rules_of k).layout;
+  settings = (rules_of k).numbers.settings;
+  shown = (rules_of k).numbers.shown;
+  thresholds = (rules_of k).numbers.thresholds;
+  shown_first = (rules_of k).numbers.shown_first;
+  shown_next = (rules_of k).numbers.shown_next;
+  shown_last = (rules_of k).numbers.shown_last;
+  shifts_first = (rules_of k).numbers.shifts_first;
+  shifts_next = (rules_of k).numbers.shifts_next;
+  shifts_last = (rules_of k).numbers.shifts_last;
+  low_order = (rules_of k).low_order;
+  most_reading = (rules_of k).most_reading;
+  least_nominal = (rules_of k).least_nominal;
+  most_nominal = (rules_of k).most_nominal;
+}
+
 abbrev pub code_of : Kind → ℕ
 code_of k = (rules_of k).code
+
+-- the type that a code names, if it is served
+unfoldable pub kind_named : ℕ → Option Kind
+kind_named code =
+    pick (eqb code (code_of Cooling)) (Some Cooling)
+    (pick (eqb code (code_of Temperature)) (Some Temperature)
+    (pick (eqb code (code_of Voltage)) (Some Voltage) (pick (eqb code (code_of Current)) (Some Current) None)))
 
 -- the type that a served code names; any other code, which no well-formed shelf has, reads as Current
 unfoldable pub kind_of : ℕ → Kind

@@ -17,11 +17,6 @@ impl Layout {
     pub fn of(kind: Kind) -> Layout
         ensures { result ≡ layout_of kind }
     {
-        Layout {
-            flags1: kind.flags1(),
-            flags2: kind.flags2(),
-            flags3: kind.flags3(),
-            speed: kind.speed(),
-        }
+        kind.rules().layout
     }
 }

@@ -61,6 +61,6 @@ fn stored(layout: Layout, s: Settings) -> [u8; 4]
 pub fn are_formed(kind: Kind, e: [u8; 4]) -> bool
     ensures { result ≡ settings_formed kind e }
 {
-    let speed = kind.speed();
+    let speed = Layout::of(kind).speed;
     bits::are_within(e, kind.settings()) & ((speed == 0) | (e[3] & speed != 0))
 }

@@ -3,23 +3,21 @@ use mathlib.Core.Path.{◌≡◌, refl, sym, ap, ◌∙◌}
 use mathlib.Core.Bool.{Bool, true, false, ◌&&◌, ◌||◌}
 use mathlib.Core.List.{List, [], ◌∷◌, ◌++◌}
 use Prim.Native.Nat.{ℕ, ◌+◌, ◌*◌, ◌/◌, ◌%◌, ◌<◌}
-use native.Mathlib.Nat.{mod-eq_of_lt}
 use native.Mathlib.Omega.{arith}
 use lib.Bits.{bit_or}
 use lib.Dec.{eqb, leb}
 use lib.ListN.{get_or}
 use borrow.Author.Tests.{eqb-true}
 use Rattle.bits.specs.Bits.{num, bit_of, bit, nibble, join}
-use Rattle.bits.proofs.Halves.{num_small, nibble_small}
 use Rattle.bits.proofs.Logic.{below_at}
 use Rattle.bits.specs.Places.{four_at}
 use Rattle.bits.specs.Numbers.{big, bytes, Bytes}
 use Rattle.element.specs.declared.types.Kind.{Kind}
 use Rattle.element.specs.declared.settings.Settings.{Settings}
 use Rattle.element.specs.declared.verdict.Verdict.{Verdict}
-use Rattle.element.specs.StatusLayout.{StatusLayout, most_of, shifts_of, cuts, puts, fit}
+use Rattle.element.specs.Verdict.{judged}
+use Rattle.element.specs.StatusLayout.{most_of, shifts_of, cuts, puts, fit}
 use Rattle.element.specs.Rules.{Numbers}
-use Rattle.element.specs.Verdict.{over, judged, current_verdict}
 use Rattle.element.specs.Types.{rules_of, voltage_status, voltage_fields, current_status, current_fields}
 use Rattle.element.specs.Status.{head_of, first_byte, status_with, entry_of, status_bytes, most_shown, most_overall}
 use Rattle.element.proofs.SettingsBothWays.{four}
@@ -40,12 +38,6 @@ first_made false false false n = refl
 pub first_is : (p d w : Bool) (n : ℕ) {h a : ℕ} → h ≡ nibble false p d w → a ≡ join h n → a ≡ first_byte (n ∷ num p ∷ num d ∷ num w ∷ [])
 first_is p d w n q r = r ∙ ap (λ (h : ℕ). join h n) q ∙ first_made p d w n
 
-nibble_is : (a b c d : Bool) → nibble a b c d ≡ num a % 2 * 8 + (num b % 2 * 4 + (num c % 2 * 2 + (num d % 2 * 1 + 0)))
-nibble_is a b c d = omega (arith, num_small a, num_small b, num_small c, num_small d)
-
-pub nibble_made : (a b c d : Bool) {l : ℕ} → l ≡ nibble a b c d → l ≡ num a % 2 * 8 + (num b % 2 * 4 + (num c % 2 * 2 + (num d % 2 * 1 + 0)))
-nibble_made a b c d p = p ∙ nibble_is a b c d
-
 -- bit 6 set or left in a byte
 lit_made : (x : ℕ) → x < 256 → (d : Bool) → bit_or x (num d * 64) ≡ x / 128 * 128 + (num (bit 6 x || d) * 64 + x % 64)
 lit_made x h true =
@@ -64,31 +56,11 @@ second_lit f l d {x} p q =
     let e : bit 6 x ≡ bit 6 f = ap (λ (n : ℕ). eqb n 1) b in
     ap (bit_or x) q ∙ lit_made x (omega (arith, p)) d ∙ (λ t. (i ∙ ap (λ (n : ℕ). n % 2) h) t * 128 + (num (e t || d) * 64 + m t))
 
-pub second_made : (f : ℕ) (e : Bool) (l : ℕ) {x : ℕ} → x ≡ bit_of 7 f * 128 + (num e * 64 + l % 16) → x ≡ bit_of 7 f % 2 * 128 + (num e % 2 * 64 + l % 16)
-second_made f e l p = omega (arith, p, num_small e)
-
--- with four flags as that half
-pub limits_made : (f : ℕ) (e a b c d : Bool) {l x : ℕ} → l ≡ nibble a b c d → x ≡ bit_of 7 f * 128 + (num e * 64 + l % 16)
-    → x ≡ bit_of 7 f % 2 * 128 + (num e % 2 * 64 + (num a % 2 * 8 + (num b % 2 * 4 + (num c % 2 * 2 + (num d % 2 * 1 + 0)))))
-limits_made f e a b c d {l} p q =
-    let m = ap (λ (z : ℕ). z % 16) p ∙ mod-eq_of_lt (nibble_small a b c d) ∙ nibble_is a b c d in
-    second_made f e l q ∙ ap (λ (z : ℕ). bit_of 7 f % 2 * 128 + (num e % 2 * 64 + z)) m
-
--- what an element shows, from the settings and the verdict that the calls say
-pub status_by : (l : StatusLayout) (f : Settings → Verdict → ℕ → List ℕ) (r : ℕ) {s t : Settings} {v w : Verdict} {e : List ℕ} → s ≡ t → v ≡ w
-    → e ≡ status_with l f s v r → e ≡ status_with l f t w r
-status_by l f r p q h = h ∙ (λ i. status_with l f (p i) (q i) r)
-
 -- a current shows what a voltage does without an UNDER bit
 without_under : (s : Settings) (hc hw : Bool) (r : ℕ)
     → let v : Verdict = judged hc hw false false in
     status_with voltage_status voltage_fields s v r ≡ status_with current_status current_fields s v r
 without_under s hc hw r = four refl (omega arith) refl refl
-
-pub current_by : (r n : ℕ) (limits : List ℕ) {s t : Settings} {v : Verdict} {e : List ℕ} → s ≡ t → v ≡ current_verdict r n limits
-    → e ≡ status_with voltage_status voltage_fields s v r → e ≡ status_with current_status current_fields t (current_verdict r n limits) r
-current_by r n limits {s} {t} p q h =
-    status_by voltage_status voltage_fields r p q h ∙ without_under t (over r n (get_or limits 0 0)) (over r n (get_or limits 1 0)) r
 
 -- an entry four fields by four, as cut out of the number that four bytes say
 pub entry_made : (k : Kind) (e a b c : List ℕ) → Bytes (four_at e 0)

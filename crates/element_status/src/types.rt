@@ -19,12 +19,7 @@ use element_verdict::verdict;
 pub fn are_formed(kind: Kind, stored: [u8; 4], t: [u8; 4], reading: u16, nominal: u16) -> bool
     ensures { result ≡ fields_formed kind stored t reading nominal }
 {
-    match kind {
-        Kind::Cooling => formed_as(Kind::Cooling, stored, t, reading, nominal),
-        Kind::Temperature => formed_as(Kind::Temperature, stored, t, reading, nominal),
-        Kind::Voltage => formed_as(Kind::Voltage, stored, t, reading, nominal),
-        Kind::Current => formed_as(Kind::Current, stored, t, reading, nominal),
-    }
+    kind.specialised(|kind| formed_as(kind, stored, t, reading, nominal))
 }
 
 fn formed_as(kind: Kind, stored: [u8; 4], t: [u8; 4], reading: u16, nominal: u16) -> bool
@@ -53,12 +48,11 @@ pub fn status(kind: Kind, stored: [u8; 4], reading: u16, nominal: u16, t: [u8; 4
 pub fn entry(kind: Kind, e: [u8; 4]) -> [u8; 16]
     ensures { result ≡ entry_of kind e }
 {
-    match kind {
-        Kind::Cooling => fields::entry_as(Kind::Cooling, e),
-        Kind::Temperature => fields::entry_as(Kind::Temperature, e),
-        Kind::Voltage => fields::entry_as(Kind::Voltage, e),
-        Kind::Current => fields::entry_as(Kind::Current, e),
-    }
+    kind.specialised(
+        |kind|
+            ensures { result ≡ entry_of kind e }
+        { fields::entry_as(kind, e) },
+    )
 }
 
 // The four bytes that say an entry.
@@ -77,12 +71,7 @@ pub fn bytes(kind: Kind, x: [u8; 16]) -> [u8; 4]
 fn number(kind: Kind, x: [u8; 16]) -> u32
     ensures { result ≡ number_of kind x }
 {
-    match kind {
-        Kind::Cooling => fields::number_as(Kind::Cooling, x),
-        Kind::Temperature => fields::number_as(Kind::Temperature, x),
-        Kind::Voltage => fields::number_as(Kind::Voltage, x),
-        Kind::Current => fields::number_as(Kind::Current, x),
-    }
+    kind.specialised(|kind| fields::number_as(kind, x))
 }
 
 // Byte 0 of a status element.

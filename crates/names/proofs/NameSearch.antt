@@ -1,4 +1,5 @@
 -- The search for a name through the types and their elements, from what the calls say. Assumes nothing.
+use Rattle.std.specs.Prelude.{Ok, Err, None}
 use mathlib.Core.Path.{◌≡◌, sym, ap, ◌∙◌}
 use mathlib.Core.Bool.{Bool, true, false, not}
 use mathlib.Core.List.{List}
@@ -13,18 +14,15 @@ use Rattle.refusals.specs.declared.Refusal.TheVariants.{ShelfNotWellFormed}
 use Rattle.shelf.specs.Limits.{most_types, most_elements, most_text, name_place, HasType}
 use Rattle.shelf.specs.Types.{types_of, type_count, before, elements_of}
 use Rattle.shelf.proofs.ElementsBefore.{before_up, ended}
-use Rattle.shelf_formed.specs.declared.Opened.TheVariants.{NotWellFormed}
 use Rattle.shelf_formed.specs.Formed.{well_formed, opened}
 use Rattle.shelf_formed.proofs.Opening.{not_formed}
 use Rattle.shelf_formed.proofs.ElementPut.{length-formed}
 use Rattle.shelf_formed.proofs.ElementTypes.{front_formed_lem, typed}
 use Rattle.shelf_formed.proofs.FormedShelf.{few_types, few_elements, type_clear}
 use Rattle.page.specs.Places.{own_slot}
-use Rattle.names.specs.declared.finding.Found.{Found}
-use Rattle.names.specs.declared.finding.Found.TheVariants.{Nothing, Refused}
 use Rattle.names.specs.Name.{name_at, name_in, equal}
 use Rattle.names.specs.Names.{name_of}
-use Rattle.names.specs.Found.{named, first_named, found_at, found}
+use Rattle.names.specs.Found.{named, first_named, found_at, found, FindAnswer}
 use Rattle.names.proofs.NameBack.{name_bound, length_name}
 use Rattle.names.proofs.Equal.{equal_same}
 
@@ -81,11 +79,11 @@ found_none s x w {t} {j} e h f =
 
 -- the answer
 module _ (s x : List ℕ) where
-  pub not_a_shelf : opened s ≡ NotWellFormed → Refused ShelfNotWellFormed ≡ found s x
+  pub not_a_shelf : opened s ≡ None → Err ShelfNotWellFormed ≡ found s x
   unfolding found
   not_a_shelf e = sym (pick_no _ _ _ (not_formed s e))
 
-  pub search_done : well_formed s ≡ true → {j n : ℕ} {r : Found} → j ≡ first_named s x → n ≡ elements_of s → r ≡ found_at j n → r ≡ found s x
+  pub search_done : well_formed s ≡ true → {j n : ℕ} {r : FindAnswer} → j ≡ first_named s x → n ≡ elements_of s → r ≡ found_at j n → r ≡ found s x
   unfolding found
   search_done w p q h = h ∙ rw (p, q) (sym (pick_yes _ _ _ w))
 
@@ -96,7 +94,7 @@ module _ (s x : List ℕ) where
       let k = name_place (elements_of s) (own_slot s j) in
       by_case (equal (name_at s k) x) (λ t. absurd (omega (arith, l, ap length (equal_same (name_at s k) x t), length_name s k, name_bound s k))) (λ t. t)
 
-  pub too_long : well_formed s ≡ true → most_text < length x → Nothing ≡ found s x
+  pub too_long : well_formed s ≡ true → most_text < length x → (Ok None) ≡ found s x
   unfolding found first_named
   too_long w l =
       let e : first_below (named s x) (elements_of s) ≡ elements_of s =

@@ -1,4 +1,5 @@
 -- Setting a name changes that name and nothing else. Assumes nothing.
+use Rattle.std.specs.Prelude.{Ok, Some}
 use mathlib.Core.Path.{◌≡◌, sym, ap, ◌∙◌}
 use mathlib.Core.Bool.{true}
 use mathlib.Core.List.{List}
@@ -11,7 +12,6 @@ use borrow.Author.Tests.{ltb-true, ltb-false}
 use Rattle.bits.proofs.Logic.{by_case}
 use Rattle.bits.proofs.BytesPut.{Beside, length-put_bytes, bytes_other, bytes_put_lem, take_put}
 use Rattle.refusals.specs.declared.Refusal.TheVariants.{ShelfNotWellFormed}
-use Rattle.refusals.specs.declared.Answer.TheVariants.{Accepted}
 use Rattle.refusals.specs.Outcomes.{next}
 use Rattle.refusals.proofs.AcceptedTests.{held, held_both}
 use Rattle.shelf.specs.Limits.{most_types, most_text, element_place, name_place}
@@ -27,7 +27,6 @@ use Rattle.page.specs.Header.{shelf_tested}
 use Rattle.page.proofs.ElementSlots.{own_there}
 use Rattle.names.specs.Name.{name_in, is_name, padded}
 use Rattle.names.specs.Names.{name_of, element_name, overall_name}
-use Rattle.names.specs.declared.finding.Found.TheVariants.{Element}
 use Rattle.names.specs.Found.{found}
 use Rattle.names.specs.Setting.{number_tested, name_set, element_tested, element_named, overall_tested, overall_named}
 use Rattle.names.proofs.NameBack.{length-padded, name_same, name_back}
@@ -96,23 +95,23 @@ only_named s i x w l h =
 
 -- what the tests say where they accept
 module _ (s : List ℕ) (j : ℕ) (x : List ℕ) where
-  accepted : (n : ℕ) → next (shelf_tested s) (number_tested j n x) ≡ Accepted → (well_formed s ≡ true) × (j < n) × (is_name x ≡ true)
+  accepted : (n : ℕ) → next (shelf_tested s) (number_tested j n x) ≡ Ok tt → (well_formed s ≡ true) × (j < n) × (is_name x ≡ true)
   accepted n a =
       let p = held_both (shelf_tested s) (number_tested j n x) a in
       let q = number_held j n x p.1 in
-      ((held (well_formed s) ShelfNotWellFormed Accepted p.0).0, q.0, q.1)
+      ((held (well_formed s) ShelfNotWellFormed (Ok tt) p.0).0, q.0, q.1)
 
-  pub element_accepted : element_tested s j x ≡ Accepted → (well_formed s ≡ true) × (j < elements_of s) × (is_name x ≡ true)
+  pub element_accepted : element_tested s j x ≡ Ok tt → (well_formed s ≡ true) × (j < elements_of s) × (is_name x ≡ true)
   unfolding element_tested
   element_accepted a = accepted (elements_of s) a
 
-  pub overall_accepted : overall_tested s j x ≡ Accepted → (well_formed s ≡ true) × (j < types_of s) × (is_name x ≡ true)
+  pub overall_accepted : overall_tested s j x ≡ Ok tt → (well_formed s ≡ true) × (j < types_of s) × (is_name x ≡ true)
   unfolding overall_tested
   overall_accepted a = accepted (types_of s) a
 
   -- an accepted call sets exactly the name of its element
-  pub sets_exactly : (element_tested s j x ≡ Accepted → OnlyNamed s (own_slot s j) x (element_named s j x))
-      × (overall_tested s j x ≡ Accepted → OnlyNamed s (start_of s j) x (overall_named s j x))
+  pub sets_exactly : (element_tested s j x ≡ Ok tt → OnlyNamed s (own_slot s j) x (element_named s j x))
+      × (overall_tested s j x ≡ Ok tt → OnlyNamed s (start_of s j) x (overall_named s j x))
   sets_exactly = (
     λ a.
         let h = element_accepted a in
@@ -123,7 +122,7 @@ module _ (s : List ℕ) (j : ℕ) (x : List ℕ) where
   )
 
 -- the same by elements: the name that was set, the names of the others, and those of the overall elements
-module _ (s : List ℕ) (j : ℕ) (x : List ℕ) (a : element_tested s j x ≡ Accepted) where
+module _ (s : List ℕ) (j : ℕ) (x : List ℕ) (a : element_tested s j x ≡ Ok tt) where
   abbrev element_only : OnlyNamed s (own_slot s j) x (element_named s j x)
   element_only = (sets_exactly s j x).0 a
 
@@ -140,7 +139,7 @@ module _ (s : List ℕ) (j : ℕ) (x : List ℕ) (a : element_tested s j x ≡ A
       ap (name_of (element_named s j x)) (start_alike s (element_named s j x) element_only.4 t l)
       ∙ element_only.1 (start_of s t) (λ e. own_not_start s j t (element_accepted s j x a).1 (sym e))
 
-module _ (s : List ℕ) (t : ℕ) (x : List ℕ) (a : overall_tested s t x ≡ Accepted) where
+module _ (s : List ℕ) (t : ℕ) (x : List ℕ) (a : overall_tested s t x ≡ Ok tt) where
   abbrev overall_only : OnlyNamed s (start_of s t) x (overall_named s t x)
   overall_only = (sets_exactly s t x).1 a
 
@@ -159,8 +158,8 @@ module _ (s : List ℕ) (t : ℕ) (x : List ℕ) (a : overall_tested s t x ≡ A
       ap (name_of (overall_named s t x)) (own_alike s (overall_named s t x) overall_only.4 j) ∙ overall_only.1 (own_slot s j) (own_not_start s j t l)
 
 -- an element that was named is found by its name, unless one before it has the same
-pub set_found : (s : List ℕ) (j : ℕ) (x : List ℕ) → element_tested s j x ≡ Accepted → ((i : ℕ) → i < j → element_name s i ≡ x → ⊥)
-    → found (element_named s j x) x ≡ Element j
+pub set_found : (s : List ℕ) (j : ℕ) (x : List ℕ) → element_tested s j x ≡ Ok tt → ((i : ℕ) → i < j → element_name s i ≡ x → ⊥)
+    → found (element_named s j x) x ≡ Ok (Some j)
 set_found s j x a h =
     let o = element_named s j x in
     let n = element_only s j x a in

@@ -1,4 +1,5 @@
 -- The tests before a name is set, and the name put, from what the calls say. Assumes nothing.
+use Rattle.std.specs.Prelude.{Ok, Err, Some, None, Option}
 use mathlib.Core.Path.{◌≡◌, refl, sym, ap, ◌∙◌}
 use mathlib.Core.Bool.{Bool, true, false}
 use mathlib.Core.List.{List, ◌++◌}
@@ -12,8 +13,6 @@ use Rattle.bits.proofs.Logic.{pick_yes, pick_no}
 use Rattle.bits.proofs.Rows.{bytes_whole}
 use Rattle.refusals.specs.declared.Refusal.{Refusal}
 use Rattle.refusals.specs.declared.Refusal.TheVariants.{ShelfNotWellFormed, NoSuchElement, NotAllowed}
-use Rattle.refusals.specs.declared.Answer.{Answer}
-use Rattle.refusals.specs.declared.Answer.TheVariants.{Accepted, Refused}
 use Rattle.refusals.specs.Outcomes.{unless, next, Changes}
 use Rattle.refusals.proofs.AcceptedTests.{held}
 use Rattle.shelf.specs.Limits.{most_types, most_elements, most_text, name_place, HasTypes, HasElement}
@@ -21,8 +20,6 @@ use Rattle.shelf.specs.declared.types.Run.{Run}
 use Rattle.shelf.specs.Types.{types_of, before, elements_of, run_at}
 use Rattle.shelf.proofs.ElementsBefore.{before_up}
 use Rattle.shelf_formed.specs.declared.Sizes.{Sizes}
-use Rattle.shelf_formed.specs.declared.Opened.{Opened}
-use Rattle.shelf_formed.specs.declared.Opened.TheVariants.{Shelf, NotWellFormed}
 use Rattle.shelf_formed.specs.Formed.{well_formed, opened}
 use Rattle.shelf_formed.proofs.Opening.{formed_sizes, not_formed}
 use Rattle.shelf_formed.proofs.ElementPut.{length-formed, shelf_there, room}
@@ -36,30 +33,31 @@ use Rattle.page.proofs.ElementSlots.{own_there}
 use Rattle.names.specs.Name.{is_name, padded}
 use Rattle.names.specs.Setting.{number_tested, name_set, set_if, element_tested, element_named, overall_tested, overall_named}
 use Rattle.names.proofs.NameBack.{length-padded}
+use Rattle.refusals.specs.Answers.{Answer}
 
 -- 15 and 6
 module _ (j n : ℕ) (x : List ℕ) where
-  pub past_last : n ≤ j → Refused NoSuchElement ≡ number_tested j n x
+  pub past_last : n ≤ j → Err NoSuchElement ≡ number_tested j n x
   unfolding number_tested
   past_last l = sym (pick_no _ _ _ (le-ltb j n l))
 
   module _ (l : j < n) {b : Bool} (h : b ≡ is_name x) where
-    name_tested : number_tested j n x ≡ unless b NotAllowed Accepted
+    name_tested : number_tested j n x ≡ unless b NotAllowed (Ok tt)
     unfolding number_tested
-    name_tested = pick_yes _ _ _ (lt-ltb j n l) ∙ ap (λ (t : Bool). unless t NotAllowed Accepted) (sym h)
+    name_tested = pick_yes _ _ _ (lt-ltb j n l) ∙ ap (λ (t : Bool). unless t NotAllowed (Ok tt)) (sym h)
 
-    pub no_name : b ≡ false → Refused NotAllowed ≡ number_tested j n x
-    no_name u = sym (name_tested ∙ ap (λ (t : Bool). unless t NotAllowed Accepted) u)
+    pub no_name : b ≡ false → Err NotAllowed ≡ number_tested j n x
+    no_name u = sym (name_tested ∙ ap (λ (t : Bool). unless t NotAllowed (Ok tt)) u)
 
-    pub a_name : b ≡ true → Accepted ≡ number_tested j n x
-    a_name u = sym (name_tested ∙ ap (λ (t : Bool). unless t NotAllowed Accepted) u)
+    pub a_name : b ≡ true → (Ok tt) ≡ number_tested j n x
+    a_name u = sym (name_tested ∙ ap (λ (t : Bool). unless t NotAllowed (Ok tt)) u)
 
   -- where they accept, both hold
-  pub number_held : number_tested j n x ≡ Accepted → (j < n) × (is_name x ≡ true)
+  pub number_held : number_tested j n x ≡ Ok tt → (j < n) × (is_name x ≡ true)
   unfolding number_tested
   number_held e =
-      let a = held (ltb j n) NoSuchElement (unless (is_name x) NotAllowed Accepted) e in
-      (ltb-true j n a.0, (held (is_name x) NotAllowed Accepted a.1).0)
+      let a = held (ltb j n) NoSuchElement (unless (is_name x) NotAllowed (Ok tt)) e in
+      (ltb-true j n a.0, (held (is_name x) NotAllowed (Ok tt) a.1).0)
 
 -- each slot has a name in the block
 module _ (s : List ℕ) (w : well_formed s ≡ true) where
@@ -90,43 +88,43 @@ module _ (s : List ℕ) (j n : ℕ) (x after : List ℕ) where
   abbrev tested : Answer
   tested = next (shelf_tested s) (number_tested j n x)
 
-  pub not_opened : opened s ≡ NotWellFormed → Changes tested (set_if tested after s) (Refused ShelfNotWellFormed) s
+  pub not_opened : opened s ≡ None → Changes tested (set_if tested after s) (Err ShelfNotWellFormed) s
   not_opened e = rw (not_formed s e) (refl, refl)
 
   module _ (w : well_formed s ≡ true) {m : ℕ} (e : m ≡ n) {a : Answer} (h : a ≡ number_tested j m x) where
     as_tested : a ≡ tested
     as_tested = rw w (h ∙ ap (λ (k : ℕ). number_tested j k x) e)
 
-    pub test_refused : {r : Refusal} → a ≡ Refused r → Changes tested (set_if tested after s) a s
+    pub test_refused : {r : Refusal} → a ≡ Err r → Changes tested (set_if tested after s) a s
     test_refused u = (as_tested, sym (ap (λ (b : Answer). set_if b after s) (sym as_tested ∙ u)))
 
-    pub name_set_lem : {o : List ℕ} → a ≡ Accepted → o ≡ after → Changes tested (set_if tested after s) a o
+    pub name_set_lem : {o : List ℕ} → a ≡ Ok tt → o ≡ after → Changes tested (set_if tested after s) a o
     name_set_lem u q = (as_tested, q ∙ sym (ap (λ (b : Answer). set_if b after s) (sym as_tested ∙ u)))
 
-    pub test_held : a ≡ Accepted → (j < n) × (is_name x ≡ true)
+    pub test_held : a ≡ Ok tt → (j < n) × (is_name x ≡ true)
     test_held u = number_held j n x (sym (ap (λ (k : ℕ). number_tested j k x) e) ∙ sym h ∙ u)
 
 -- a shelf that was opened, and a text to name element j or the overall element of type j
-module _ (s : List ℕ) (j : ℕ) (x : List ℕ) {o : Opened} (h : o ≡ opened s) where
-  pub element_not_opened : o ≡ NotWellFormed → Changes (element_tested s j x) (element_named s j x) (Refused ShelfNotWellFormed) s
+module _ (s : List ℕ) (j : ℕ) (x : List ℕ) {o : Option Sizes} (h : o ≡ opened s) where
+  pub element_not_opened : o ≡ None → Changes (element_tested s j x) (element_named s j x) (Err ShelfNotWellFormed) s
   unfolding element_tested
   element_not_opened u = not_opened s j (elements_of s) x (name_set s (own_slot s j) x) (sym h ∙ u)
 
-  pub overall_not_opened : o ≡ NotWellFormed → Changes (overall_tested s j x) (overall_named s j x) (Refused ShelfNotWellFormed) s
+  pub overall_not_opened : o ≡ None → Changes (overall_tested s j x) (overall_named s j x) (Err ShelfNotWellFormed) s
   unfolding overall_tested
   overall_not_opened u = not_opened s j (types_of s) x (name_set s (start_of s j) x) (sym h ∙ u)
 
-  module _ {z : Sizes} (u : o ≡ Shelf z) where
+  module _ {z : Sizes} (u : o ≡ Some z) where
     pub sizes_there : (well_formed s ≡ true) × (z.types ≡ types_of s) × (z.elements ≡ elements_of s)
     sizes_there = formed_sizes s (sym h ∙ u)
 
     -- element j
     module _ {a : Answer} (t : a ≡ number_tested j z.elements x) where
-      pub element_refused : {r : Refusal} → a ≡ Refused r → Changes (element_tested s j x) (element_named s j x) a s
+      pub element_refused : {r : Refusal} → a ≡ Err r → Changes (element_tested s j x) (element_named s j x) a s
       unfolding element_tested
       element_refused v = test_refused s j (elements_of s) x (name_set s (own_slot s j) x) sizes_there.0 sizes_there.2 t v
 
-      module _ (v : a ≡ Accepted) where
+      module _ (v : a ≡ Ok tt) where
         pub element_held : (j < elements_of s) × (is_name x ≡ true)
         element_held = test_held s j (elements_of s) x s sizes_there.0 sizes_there.2 t v
 
@@ -153,11 +151,11 @@ module _ (s : List ℕ) (j : ℕ) (x : List ℕ) {o : Opened} (h : o ≡ opened 
 
     -- the overall element of type j
     module _ {a : Answer} (t : a ≡ number_tested j z.types x) where
-      pub overall_refused : {r : Refusal} → a ≡ Refused r → Changes (overall_tested s j x) (overall_named s j x) a s
+      pub overall_refused : {r : Refusal} → a ≡ Err r → Changes (overall_tested s j x) (overall_named s j x) a s
       unfolding overall_tested
       overall_refused v = test_refused s j (types_of s) x (name_set s (start_of s j) x) sizes_there.0 sizes_there.1 t v
 
-      module _ (v : a ≡ Accepted) where
+      module _ (v : a ≡ Ok tt) where
         pub overall_held : (j < types_of s) × (is_name x ≡ true)
         overall_held = test_held s j (types_of s) x s sizes_there.0 sizes_there.1 t v
 

@@ -1,12 +1,10 @@
 -- The element whose name equals a given text. Assumes nothing.
-use Rattle.std.specs.Prelude.{Bool, List, ℕ, ltb}
+use Rattle.std.specs.Prelude.{Bool, List, ℕ, ltb, Option, Some, None, Result, Ok, Err}
 use Rattle.bits.specs.Choice.{pick, first_below}
+use Rattle.refusals.specs.declared.Refusal.{Refusal}
 use Rattle.refusals.specs.declared.Refusal.TheVariants.{ShelfNotWellFormed}
-use Rattle.refusals.specs.Numbers.{number_of}
 use Rattle.shelf.specs.Types.{elements_of}
 use Rattle.shelf_formed.specs.Formed.{well_formed}
-use Rattle.names.specs.declared.finding.Found.{Found}
-use Rattle.names.specs.declared.finding.Found.TheVariants.{Element, Nothing, Refused}
 use Rattle.names.specs.Name.{equal}
 use Rattle.names.specs.Names.{element_name}
 
@@ -18,25 +16,24 @@ named s x j = equal (element_name s j) x
 unfoldable pub first_named : List ℕ → List ℕ → ℕ
 first_named s x = first_below (named s x) (elements_of s)
 
+-- an element, or nothing, or else why it is refused
+abbrev pub FindAnswer : Type 0
+FindAnswer = Result (Option ℕ) Refusal
+
 -- of n elements the search stopped at j
-abbrev pub found_at : ℕ → ℕ → Found
-found_at j n = pick (ltb j n) (Element j) Nothing
+abbrev pub found_at : ℕ → ℕ → FindAnswer
+found_at j n = pick (ltb j n) (Ok (Some j)) (Ok None)
 
 -- 1; else the first element that has the name, or nothing
-unfoldable pub found : List ℕ → List ℕ → Found
-found s x = pick (well_formed s) (found_at (first_named s x) (elements_of s)) (Refused ShelfNotWellFormed)
+unfoldable pub found : List ℕ → List ℕ → FindAnswer
+found s x = pick (well_formed s) (found_at (first_named s x) (elements_of s)) (Err ShelfNotWellFormed)
 
 -- the number that tells of no element
 abbrev pub no_element : ℕ
 no_element = 0xffffffff
 
--- for C: the refusal's number or 0, and the element's
-abbrev pub found_number : Found → ℕ
-found_number (Element j) = 0
-found_number Nothing = 0
-found_number (Refused r) = number_of r
-
-abbrev pub element_found : Found → ℕ
-element_found (Element j) = j
-element_found Nothing = no_element
-element_found (Refused r) = no_element
+-- for C
+abbrev pub element_found : FindAnswer → ℕ
+element_found (Ok (Some j)) = j
+element_found (Ok None) = no_element
+element_found (Err r) = no_element

@@ -1,9 +1,7 @@
 -- A name set: which calls are refused, and the shelf afterwards. Assumes nothing.
-use Rattle.std.specs.Prelude.{List, ℕ, ltb}
+use Rattle.std.specs.Prelude.{List, ℕ, ltb, Ok, Err}
 use Rattle.bits.specs.Rows.{put_bytes}
 use Rattle.refusals.specs.declared.Refusal.TheVariants.{NoSuchElement, NotAllowed}
-use Rattle.refusals.specs.declared.Answer.{Answer}
-use Rattle.refusals.specs.declared.Answer.TheVariants.{Accepted, Refused}
 use Rattle.refusals.specs.Outcomes.{unless, next}
 use Rattle.shelf.specs.Limits.{name_place}
 use Rattle.shelf.specs.Types.{types_of, elements_of}
@@ -11,10 +9,11 @@ use Rattle.page.specs.Slots.{start_of}
 use Rattle.page.specs.Places.{own_slot}
 use Rattle.page.specs.Header.{shelf_tested}
 use Rattle.names.specs.Name.{is_name, padded}
+use Rattle.refusals.specs.Answers.{Answer}
 
 -- 15: a number past the last of n; 6: a text that is no name
 unfoldable pub number_tested : ℕ → ℕ → List ℕ → Answer
-number_tested j n x = unless (ltb j n) NoSuchElement (unless (is_name x) NotAllowed Accepted)
+number_tested j n x = unless (ltb j n) NoSuchElement (unless (is_name x) NotAllowed (Ok tt))
 
 -- the shelf with the name x in slot i
 unfoldable pub name_set : List ℕ → ℕ → List ℕ → List ℕ
@@ -22,8 +21,8 @@ name_set s i x = put_bytes s (name_place (elements_of s) i) (padded x)
 
 -- a shelf is changed if the tests accept it
 abbrev pub set_if : Answer → List ℕ → List ℕ → List ℕ
-set_if Accepted after s = after
-set_if (Refused r) after s = s
+set_if (Ok _) after s = after
+set_if (Err r) after s = s
 
 -- of element j: 1, 15, 6
 unfoldable pub element_tested : List ℕ → ℕ → List ℕ → Answer

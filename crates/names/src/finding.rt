@@ -3,55 +3,30 @@ ghost use Rattle.std.specs.Prelude.{◌≡◌, true, ◌≤◌, length};
 ghost use Rattle.shelf.specs.Limits.{most_text};
 ghost use Rattle.shelf.specs.Types.{types_of, elements_of};
 ghost use Rattle.shelf_formed.specs.Formed.{well_formed};
-ghost use Rattle.names.specs.Found.{first_named, found_at, found, found_number, element_found};
+ghost use Rattle.names.specs.Found.{first_named, found_at, found, element_found};
 
 use crate::name;
 use refusals::Refusal;
 use shelf::{limits, types};
-use shelf_formed::{Opened, Sizes};
-
-#[derive(Clone, Copy)]
-pub enum Found {
-    Element(u32),
-    Nothing,
-    Refused(Refusal),
-}
+use shelf_formed::Sizes;
 
 // The number that tells of no element.
 const NO_ELEMENT: u32 = 0xffff_ffff;
 
-impl Found {
-    // Of n elements the search stopped at j.
-    fn at(j: u16, n: u16) -> Found
-        ensures { result ≡ found_at j n }
-    {
-        if j < n {
-            Found::Element(j as u32)
-        } else {
-            Found::Nothing
-        }
-    }
+// Of n elements the search stopped at j.
+fn found_at(j: u16, n: u16) -> Result<Option<u32>, Refusal>
+    ensures { result ≡ found_at j n }
+{
+    if j < n { Ok(Some(j as u32)) } else { Ok(None) }
+}
 
-    // The refusal's number, or 0.
-    pub fn number(self) -> u8
-        ensures { result ≡ found_number self }
-    {
-        match self {
-            Found::Element(_) => 0,
-            Found::Nothing => 0,
-            Found::Refused(refusal) => refusal.number(),
-        }
-    }
-
-    // The element's number, or the one that tells of none.
-    pub fn element(self) -> u32
-        ensures { result ≡ element_found self }
-    {
-        match self {
-            Found::Element(j) => j,
-            Found::Nothing => NO_ELEMENT,
-            Found::Refused(_) => NO_ELEMENT,
-        }
+// The number of the element found, or the one that tells of none.
+pub fn element(found: Result<Option<u32>, Refusal>) -> u32
+    ensures { result ≡ element_found found }
+{
+    match found {
+        Ok(Some(j)) => j,
+        Ok(None) | Err(_) => NO_ELEMENT,
     }
 }
 
@@ -64,8 +39,8 @@ fn first_named(shelf: &[u8], text: &[u8], sizes: Sizes) -> u16
     ensures { result ≡ first_named shelf.now text.now }
 {
     let mut j: u16 = 0;
-    let mut t: u16 = 0;
-    'search: while t < sizes.types {
+    // The number of the element goes on over the types, so that the inner loop is no `for`.
+    'search: for t in 0..sizes.types {
         let end = j + types::elements_of(shelf, t) as u16;
         while j < end {
             if name::equals(shelf, limits::name_place(sizes.elements, j + t + 1), text) {
@@ -73,20 +48,19 @@ fn first_named(shelf: &[u8], text: &[u8], sizes: Sizes) -> u16
             }
             j += 1;
         }
-        t += 1;
     }
     j
 }
 
-pub fn find(shelf: &[u8], text: &[u8]) -> Found
+pub fn find(shelf: &[u8], text: &[u8]) -> Result<Option<u32>, Refusal>
     ensures { result ≡ found shelf.now text.now }
 {
     let opened = shelf_formed::open_shelf(shelf);
-    let Opened::Shelf(sizes) = opened else {
-        return Found::Refused(Refusal::ShelfNotWellFormed);
+    let Some(sizes) = opened else {
+        return Err(Refusal::ShelfNotWellFormed);
     };
     if text.len() > limits::MOST_TEXT as usize {
-        return Found::Nothing;
+        return Ok(None);
     }
-    Found::at(first_named(shelf, text, sizes), sizes.elements)
+    found_at(first_named(shelf, text, sizes), sizes.elements)
 }

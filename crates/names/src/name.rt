@@ -19,19 +19,12 @@ pub fn equals(s: &[u8], at: u32, text: &[u8]) -> bool
     ensures { result ≡ equal (name_at s.now at) text.now }
 {
     let n = text.len() as u32;
-    if !bits::are_same(s, at, text, n) {
-        return false;
-    }
-    length_at(s, at) == n
+    bits::are_same(s, at, text, n) && length_at(s, at) == n
 }
 
 // A text that is a name.
 pub fn is_name(text: &[u8]) -> bool
     ensures { result ≡ is_name text.now }
 {
-    if text.len() > limits::MOST_TEXT as usize {
-        return false;
-    }
-    let n = text.len() as u32;
-    bits::printable_run(text, 0, n) == n
+    text.len() <= limits::MOST_TEXT as usize && text.iter().all(|b| bits::is_printable(*b))
 }

@@ -8,21 +8,20 @@ ghost use Rattle.names.specs.Name.{is_name};
 ghost use Rattle.names.specs.Setting.{number_tested, name_set, element_tested, element_named, overall_tested, overall_named};
 
 use crate::name;
-use refusals::{Answer, Refusal};
+use refusals::Refusal;
 use shelf::{limits, texts, types};
-use shelf_formed::Opened;
 
 // What is tested behind the shelf: a number below n, and a text that is a name.
-fn test(number: u32, n: u16, text: &[u8]) -> Answer
+fn test(number: u32, n: u16, text: &[u8]) -> Result<(), Refusal>
     ensures { result ≡ number_tested number n text.now }
 {
     if n as u32 <= number {
-        return Answer::Refused(Refusal::NoSuchElement);
+        return Err(Refusal::NoSuchElement);
     }
     if !name::is_name(text) {
-        return Answer::Refused(Refusal::NotAllowed);
+        return Err(Refusal::NotAllowed);
     }
-    Answer::Accepted
+    Ok(())
 }
 
 // The name of slot i, of a shelf of n elements.
@@ -44,15 +43,15 @@ fn put(shelf: &mut [u8], n: u16, i: u16, text: &[u8])
 }
 
 // Of element j.
-pub fn of_element(shelf: &mut [u8], j: u32, text: &[u8]) -> Answer
+pub fn of_element(shelf: &mut [u8], j: u32, text: &[u8]) -> Result<(), Refusal>
     ensures { Changes (element_tested shelf.old j text.now) (element_named shelf.old j text.now) result shelf.new }
 {
     let opened = shelf_formed::open_shelf(shelf);
-    let Opened::Shelf(sizes) = opened else {
-        return Answer::Refused(Refusal::ShelfNotWellFormed);
+    let Some(sizes) = opened else {
+        return Err(Refusal::ShelfNotWellFormed);
     };
     let tested = test(j, sizes.elements, text);
-    let Answer::Accepted = tested else {
+    let Ok(()) = tested else {
         return tested;
     };
     let run = types::run_of(shelf, j as u16);
@@ -66,15 +65,15 @@ pub fn of_element(shelf: &mut [u8], j: u32, text: &[u8]) -> Answer
 }
 
 // Of the overall element of type t.
-pub fn of_overall(shelf: &mut [u8], t: u32, text: &[u8]) -> Answer
+pub fn of_overall(shelf: &mut [u8], t: u32, text: &[u8]) -> Result<(), Refusal>
     ensures { Changes (overall_tested shelf.old t text.now) (overall_named shelf.old t text.now) result shelf.new }
 {
     let opened = shelf_formed::open_shelf(shelf);
-    let Opened::Shelf(sizes) = opened else {
-        return Answer::Refused(Refusal::ShelfNotWellFormed);
+    let Some(sizes) = opened else {
+        return Err(Refusal::ShelfNotWellFormed);
     };
     let tested = test(t, sizes.types, text);
-    let Answer::Accepted = tested else {
+    let Ok(()) = tested else {
         return tested;
     };
     let before = types::elements_before(shelf, t as u16);

@@ -1,5 +1,6 @@
 -- The two slots of an element: that they are there and of its type, and the same on shelves with the same front.
 -- Assumes nothing.
+use Rattle.std.specs.Prelude.{Ok}
 use mathlib.Core.Path.{◌≡◌, sym, ap, ◌∙◌}
 use mathlib.Core.Bool.{true, false}
 use mathlib.Core.List.{List}
@@ -9,8 +10,6 @@ use lib.ListN.{length}
 use borrow.Author.Tests.{ne_eqb}
 use Rattle.bits.proofs.Logic.{pick_no}
 use Rattle.element.specs.Types.{kind_of}
-use Rattle.refusals.specs.declared.Answer.{Answer}
-use Rattle.refusals.specs.declared.Answer.TheVariants.{Accepted}
 use Rattle.shelf.specs.Types.{type_code, before, elements_of, type_of, kind_at}
 use Rattle.shelf.specs.Limits.{HasElement}
 use Rattle.shelf_formed.specs.Formed.{front_formed, HasFront, well_formed}
@@ -27,6 +26,7 @@ use Rattle.page.proofs.SlotTypes.{slotted}
 use Rattle.page.proofs.SlotsOfFront.{first_within, end_there}
 use Rattle.shelf_formed.proofs.ElementPut.{shelf_there}
 use Rattle.page.proofs.HeaderBothWays.{tested_has}
+use Rattle.refusals.specs.Answers.{Answer}
 
 pub places_alike : (s x : List ℕ) → front x ≡ front s → (j : ℕ) → j < elements_of s → places_of x j ≡ places_of s j
 unfolding places_of start_of
@@ -90,7 +90,7 @@ slot_has s w i l e =
     rw e (omega (arith, length-formed s w, end_there s f i l), λ o. first_within s f i l o)
 
 -- the same from the answer of the tests before a page's own
-module _ (s p : List ℕ) (code : ℕ) {a : Answer} (h : a ≡ page_tested s p code) (u : a ≡ Accepted) where
+module _ (s p : List ℕ) (code : ℕ) {a : Answer} (h : a ≡ page_tested s p code) (u : a ≡ Ok tt) where
   pub page_has : HasPage s p
   page_has = tested_has s p code (sym h ∙ u)
 

@@ -1,4 +1,5 @@
 -- A header that passed its tests is the one that would be written, and one that was written passes them. Assumes nothing.
+use Rattle.std.specs.Prelude.{Ok}
 use mathlib.Core.Path.{◌≡◌, refl, sym, ap, ap₂, ◌∙◌}
 use mathlib.Core.Bool.{true}
 use mathlib.Core.List.{List, ◌∷◌, ◌++◌}
@@ -14,7 +15,6 @@ use Rattle.bits.proofs.Each.{byte_small, four_small}
 use Rattle.bits.proofs.Widths.{big_bytes, bytes_big}
 use Rattle.bits.proofs.Rows.{take-four}
 use Rattle.refusals.specs.declared.Refusal.TheVariants.{PageCode, PageLength}
-use Rattle.refusals.specs.declared.Answer.TheVariants.{Accepted}
 use Rattle.refusals.specs.Outcomes.{next}
 use Rattle.refusals.proofs.AcceptedTests.{held, held_both}
 use Rattle.page.specs.Slots.{slots_of, slot_place}
@@ -27,16 +27,16 @@ same_four : (s p : List ℕ) (j k : ℕ) → Bytes s → Bytes p → big (four_a
 same_four s p j k hs hp e = sym (bytes_big (four_at s j) (four_small s hs j)) ∙ ap (bytes 4) e ∙ bytes_big (four_at p k) (four_small p hp k)
 
 -- a frame that passed has the code, and says the length
-pub frame_parts : (p : List ℕ) (code : ℕ) → framed p code ≡ Accepted → (get_or p 0 0 ≡ code) × (length_said p ≡ true)
+pub frame_parts : (p : List ℕ) (code : ℕ) → framed p code ≡ Ok tt → (get_or p 0 0 ≡ code) × (length_said p ≡ true)
 unfolding framed code_tested said_tested length_said
 frame_parts p code a =
     let h1 = held_both (size_tested p) (next (code_tested p code) (said_tested p)) a in
     let h2 = held_both (code_tested p code) (said_tested p) h1.1 in
-    let e = (held (eqb (get_or p 0 0) code) PageCode Accepted h2.0).0 in
-    (eqb-true (get_or p 0 0) code e, (held (length_said p) PageLength Accepted h2.1).0)
+    let e = (held (eqb (get_or p 0 0) code) PageCode (Ok tt) h2.0).0 in
+    (eqb-true (get_or p 0 0) code e, (held (length_said p) PageLength (Ok tt) h2.1).0)
 
 -- the header of a page of m bytes that passed, again
-pub head_again : (c p : List ℕ) (code own m : ℕ) → framed p code ≡ Accepted → length p ≡ m → 8 ≤ m → generation_on p ≡ generation_of c → Bytes c → Bytes p
+pub head_again : (c p : List ℕ) (code own m : ℕ) → framed p code ≡ Ok tt → length p ≡ m → 8 ≤ m → generation_on p ≡ generation_of c → Bytes c → Bytes p
     → own ≡ get_or p 1 0 → head_of c code own m ≡ take 8 p
 head_again c p code own m f lp lm g hc hp o =
     let y = byte_small p hp in
@@ -53,7 +53,7 @@ head_again c p code own m f lp lm g hc hp o =
 
 -- a page that starts with the header of its own length has the frame
 module _ (c rest : List ℕ) (code own m : ℕ) (e : length (head_of c code own m ++ rest) ≡ m) where
-  pub frame_written : 4 ≤ m → m < 65540 → framed (head_of c code own m ++ rest) code ≡ Accepted
+  pub frame_written : 4 ≤ m → m < 65540 → framed (head_of c code own m ++ rest) code ≡ Ok tt
   unfolding length_said
   frame_written l h =
       let p : List ℕ = head_of c code own m ++ rest in
@@ -62,8 +62,8 @@ module _ (c rest : List ℕ) (code own m : ℕ) (e : length (head_of c code own 
       says : length_said (head_of c code own m ++ rest) ≡ true
       says = eq-eqb _ _ (e ∙ sym (ap (λ (x : ℕ). x + 4) (big_bytes 2 (m - 4) (omega arith)) ∙ omega arith))
 
-module _ (c p : List ℕ) (code n : ℕ) (a : headed c p code n ≡ Accepted) where
-  parts : (framed p code ≡ Accepted) × (length p ≡ slot_place n) × (generation_on p ≡ generation_of c)
+module _ (c p : List ℕ) (code n : ℕ) (a : headed c p code n ≡ Ok tt) where
+  parts : (framed p code ≡ Ok tt) × (length p ≡ slot_place n) × (generation_on p ≡ generation_of c)
   parts = head_parts c p code n a
 
   pub length-tested : length p ≡ slot_place n
@@ -75,7 +75,7 @@ module _ (c p : List ℕ) (code n : ℕ) (a : headed c p code n ≡ Accepted) wh
   header_again own hc hp o = head_again c p code own (slot_place n) parts.0 length-tested (omega arith) parts.2 hc hp o
 
 -- an accepted page and its shelf have all the bytes that are read after the tests
-pub tested_has : (s p : List ℕ) (code : ℕ) → page_tested s p code ≡ Accepted → HasPage s p
+pub tested_has : (s p : List ℕ) (code : ℕ) → page_tested s p code ≡ Ok tt → HasPage s p
 unfolding page_tested
 tested_has s p code e =
     let h = (held_both (shelf_tested s) (headed s p code (slots_of s)) e).1 in
@@ -83,7 +83,7 @@ tested_has s p code e =
 
 -- a page that was written under the same generation code passes
 pub head_written : (f : ℕ → List ℕ) → ((i : ℕ) → length (f i) ≡ 4) → (c : List ℕ) (code own n : ℕ) → slot_place n < 65540
-    → headed c (header c code own n ++ joined f n) code n ≡ Accepted
+    → headed c (header c code own n ++ joined f n) code n ≡ Ok tt
 unfolding header
 head_written f h c code own n l =
     let p : List ℕ = header c code own n ++ joined f n in

@@ -10,3 +10,4 @@ pub mod SameFront
 pub mod SlotWalk
 pub mod SlotsCounted
 pub mod FirstOffence
+pub mod SlotsTested

@@ -1,4 +1,5 @@
 -- Shelves with the same front have the same pages for them: slots, header, tests. Assumes nothing.
+use Rattle.std.specs.Prelude.{Ok}
 use mathlib.Core.Path.{◌≡◌, ap, ◌∙◌}
 use mathlib.Core.Bool.{true}
 use mathlib.Core.List.{List, ◌++◌}
@@ -8,7 +9,6 @@ use lib.Dec.{eqb}
 use lib.ListN.{length}
 use Rattle.bits.specs.Rows.{joined}
 use Rattle.refusals.specs.declared.Refusal.TheVariants.{Generation}
-use Rattle.refusals.specs.declared.Answer.TheVariants.{Accepted}
 use Rattle.refusals.specs.Outcomes.{unless, next}
 use Rattle.shelf_formed.specs.Formed.{front_formed, well_formed}
 use Rattle.shelf_formed.proofs.FrontOfShelf.{front, front_get, alike, front_alike}
@@ -33,7 +33,7 @@ module _ (s x : List ℕ) (e : front x ≡ front s) where
     unfolding headed generation_tested
     headed_alike n =
         ap
-        (λ (g : ℕ). next (framed p code) (next (length_tested p (slot_place n)) (unless (eqb (generation_on p) g) Generation Accepted)))
+        (λ (g : ℕ). next (framed p code) (next (length_tested p (slot_place n)) (unless (eqb (generation_on p) g) Generation (Ok tt))))
         (alike s x e generation_of (generation_same x) (generation_same s))
 
     pub tested_alike : well_formed s ≡ true → well_formed x ≡ true → page_tested x p code ≡ page_tested s p code
@@ -42,5 +42,5 @@ module _ (s x : List ℕ) (e : front x ≡ front s) where
 
 -- a page that was written for a shelf passes under its front
 pub told_headed : (f : ℕ → List ℕ) → ((i : ℕ) → length (f i) ≡ 4) → (s : List ℕ) (code own : ℕ) → slot_place (slots_of s) < 65540
-    → headed (front s) (header s code own (slots_of s) ++ joined f (slots_of s)) code (slots_of s) ≡ Accepted
+    → headed (front s) (header s code own (slots_of s) ++ joined f (slots_of s)) code (slots_of s) ≡ Ok tt
 told_headed f h s code own l = rw (← (header_same s code own (slots_of s))) (head_written f h (front s) code own (slots_of s) l)

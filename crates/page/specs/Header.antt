@@ -1,21 +1,20 @@
 -- The first tests of a call, and the header of the pages 02h and 05h. Assumes nothing.
-use Rattle.std.specs.Prelude.{◌≡◌, Bool, true, List, ◌∷◌, ◌++◌, ℕ, ◌+◌, ◌-◌, ◌≤◌, eqb, leb, length, get_or}
+use Rattle.std.specs.Prelude.{◌≡◌, Bool, true, List, ◌∷◌, ◌++◌, ℕ, ◌+◌, ◌-◌, ◌≤◌, eqb, leb, length, get_or, Ok}
 use Rattle.bits.specs.Numbers.{big, bytes}
 use Rattle.bits.specs.Places.{two_at, four_at, put_four}
 use Rattle.refusals.specs.declared.Refusal.TheVariants.{ShelfNotWellFormed, PageTooShort, PageCode, PageLength, Generation, NeededLength}
-use Rattle.refusals.specs.declared.Answer.{Answer}
-use Rattle.refusals.specs.declared.Answer.TheVariants.{Accepted}
 use Rattle.refusals.specs.Outcomes.{unless, next}
 use Rattle.shelf_formed.specs.Formed.{well_formed, configuration_formed}
 use Rattle.page.specs.Slots.{slots_of, slot_place}
+use Rattle.refusals.specs.Answers.{Answer}
 
 -- 1: the shelf record is not well formed
 abbrev pub shelf_tested : List ℕ → Answer
-shelf_tested s = unless (well_formed s) ShelfNotWellFormed Accepted
+shelf_tested s = unless (well_formed s) ShelfNotWellFormed (Ok tt)
 
 -- the same of the configuration that readers take type list and generation from
 abbrev pub configuration_tested : List ℕ → Answer
-configuration_tested c = unless (configuration_formed c) ShelfNotWellFormed Accepted
+configuration_tested c = unless (configuration_formed c) ShelfNotWellFormed (Ok tt)
 
 -- n is page length + 4
 abbrev pub says : List ℕ → ℕ → Bool
@@ -38,15 +37,15 @@ generation_of c = big (four_at c 0)
 
 -- 2: fewer than 4 bytes
 unfoldable pub size_tested : List ℕ → Answer
-size_tested p = unless (leb 4 (length p)) PageTooShort Accepted
+size_tested p = unless (leb 4 (length p)) PageTooShort (Ok tt)
 
 -- 3: another page code
 unfoldable pub code_tested : List ℕ → ℕ → Answer
-code_tested p code = unless (eqb (get_or p 0 0) code) PageCode Accepted
+code_tested p code = unless (eqb (get_or p 0 0) code) PageCode (Ok tt)
 
 -- 4: the n bytes given are not page length + 4
 abbrev pub given_tested : List ℕ → ℕ → Answer
-given_tested p n = unless (says p n) PageLength Accepted
+given_tested p n = unless (says p n) PageLength (Ok tt)
 
 unfoldable pub said_tested : List ℕ → Answer
 said_tested p = given_tested p (length p)
@@ -57,11 +56,11 @@ framed p code = next (size_tested p) (next (code_tested p code) (said_tested p))
 
 -- 12: not the n bytes that the type list needs
 unfoldable pub length_tested : List ℕ → ℕ → Answer
-length_tested p n = unless (eqb (length p) n) NeededLength Accepted
+length_tested p n = unless (eqb (length p) n) NeededLength (Ok tt)
 
 -- 5: another generation code
 unfoldable pub generation_tested : List ℕ → List ℕ → Answer
-generation_tested c p = unless (eqb (generation_on p) (generation_of c)) Generation Accepted
+generation_tested c p = unless (eqb (generation_on p) (generation_of c)) Generation (Ok tt)
 
 -- 2 to 4: the frame; 12: the length of n slots; 5: the generation code
 unfoldable pub headed : List ℕ → List ℕ → ℕ → ℕ → Answer
@@ -70,6 +69,10 @@ headed c p code n = next (framed p code) (next (length_tested p (slot_place n)) 
 -- 1 to 4, 12, 5: the shelf, and the header of a page for it
 unfoldable pub page_tested : List ℕ → List ℕ → ℕ → Answer
 page_tested s p code = next (shelf_tested s) (headed s p code (slots_of s))
+
+-- 1 to 4, 12, 5: the configuration, and the header of a page read under it
+unfoldable pub read_tested : List ℕ → List ℕ → ℕ → Answer
+read_tested c p code = next (configuration_tested c) (headed c p code (slots_of c))
 
 -- the shelf is well formed, and the page has the bytes of all its slots
 abbrev pub HasPage : List ℕ → List ℕ → Type 0

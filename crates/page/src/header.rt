@@ -4,86 +4,86 @@ ghost use Rattle.shelf.specs.Limits.{HasTypes};
 ghost use Rattle.page.specs.Header.{size_tested, code_tested, given_tested, framed, length_tested, generation_tested, headed, head_of_put, head_put};
 
 use crate::slots;
-use refusals::{Answer, Refusal};
+use refusals::Refusal;
 use shelf::limits;
 
-pub fn test_size(page: &[u8]) -> Answer
+pub fn test_size(page: &[u8]) -> Result<(), Refusal>
     ensures { result ≡ size_tested page.now }
 {
     if page.len() < 4 {
-        return Answer::Refused(Refusal::PageTooShort);
+        return Err(Refusal::PageTooShort);
     }
-    Answer::Accepted
+    Ok(())
 }
 
-pub fn test_code(page: &[u8], code: u8) -> Answer
+pub fn test_code(page: &[u8], code: u8) -> Result<(), Refusal>
     requires { 4 ≤ length page.now }
     ensures { result ≡ code_tested page.now code }
 {
     if bits::byte_at(page, 0) != code {
-        return Answer::Refused(Refusal::PageCode);
+        return Err(Refusal::PageCode);
     }
-    Answer::Accepted
+    Ok(())
 }
 
 // The length that the page says, where so many bytes are given.
-pub fn test_said(page: &[u8], given: usize) -> Answer
+pub fn test_said(page: &[u8], given: usize) -> Result<(), Refusal>
     requires { 4 ≤ length page.now }
     ensures { result ≡ given_tested page.now given }
 {
     if given != bits::big16_at(page, 2) as usize + 4 {
-        return Answer::Refused(Refusal::PageLength);
+        return Err(Refusal::PageLength);
     }
-    Answer::Accepted
+    Ok(())
 }
 
 // The frame, which every page has.
-pub fn test_frame(page: &[u8], code: u8) -> Answer
+pub fn test_frame(page: &[u8], code: u8) -> Result<(), Refusal>
     ensures { result ≡ framed page.now code }
 {
     let size = test_size(page);
-    let Answer::Accepted = size else {
+    let Ok(()) = size else {
         return size;
     };
     let named = test_code(page, code);
-    let Answer::Accepted = named else {
+    let Ok(()) = named else {
         return named;
     };
     test_said(page, page.len())
 }
 
 // The length that the type list needs.
-pub fn test_length(page: &[u8], needed: u32) -> Answer
+pub fn test_length(page: &[u8], needed: u32) -> Result<(), Refusal>
     ensures { result ≡ length_tested page.now needed }
 {
     if page.len() != needed as usize {
-        return Answer::Refused(Refusal::NeededLength);
+        return Err(Refusal::NeededLength);
     }
-    Answer::Accepted
+    Ok(())
 }
 
-pub fn test_generation(configuration: &[u8], page: &[u8]) -> Answer
+pub fn test_generation(configuration: &[u8], page: &[u8]) -> Result<(), Refusal>
     requires has_types { HasTypes configuration.now }
     requires in_bounds { 8 ≤ length page.now }
     ensures { result ≡ generation_tested configuration.now page.now }
 {
     if bits::big32_at(page, 4) != bits::big32_at(configuration, limits::GENERATION) {
-        return Answer::Refused(Refusal::Generation);
+        return Err(Refusal::Generation);
     }
-    Answer::Accepted
+    Ok(())
 }
 
 // The tests that come before a page's own: its frame, and that the page is one for these n slots and of this generation.
-pub fn test(configuration: &[u8], page: &[u8], code: u8, n: u16) -> Answer
+pub fn test(configuration: &[u8], page: &[u8], code: u8, n: u16) -> Result<(), Refusal>
     requires { HasTypes configuration.now }
     ensures { result ≡ headed configuration.now page.now code n }
 {
     let frame = test_frame(page, code);
-    let Answer::Accepted = frame else {
+    let Ok(()) = frame else {
         return frame;
     };
     let length = test_length(page, slots::slot_place(n));
-    let Answer::Accepted = length else {
+    let Ok(()) = length else {
         return length;
     };
     test_generation(configuration, page)

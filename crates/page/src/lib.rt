@@ -5,3 +5,5 @@ pub mod header;
 pub mod places;
 pub mod slots;
 pub mod testing;
+pub mod walk;
+pub mod writing;

@@ -1,5 +1,6 @@
 -- Every case of the table holds, and so do those of the errors: antt computes what the definitions give, and it is what document 01 and the
 -- requests tell. Assumes nothing.
+use Rattle.std.specs.Prelude.{Ok, Err}
 use mathlib.Core.Path.{◌≡◌, refl, sym, ap, ap₂, subst, ◌∙◌}
 use mathlib.Core.Bool.{Bool, true, false, ◌&&◌}
 use mathlib.Core.List.{List, [], ◌∷◌, ◌++◌}
@@ -31,7 +32,7 @@ use Rattle.page.specs.Slots.{slots_of, start_of, slot_type, is_overall, slot_at,
 use Rattle.page.specs.Header.{length_said, given_tested, size_tested, code_tested, said_tested, framed, length_tested, generation_tested, headed, page_tested, header}
 use Rattle.page.specs.Places.{own_slot, places_of}
 use Rattle.names.specs.Name.{is_name, padded, equal}
-use Rattle.names.specs.Found.{found_number, element_found}
+use Rattle.names.specs.Found.{element_found}
 use Rattle.descriptor_page.specs.Page.{descriptor, descriptor_page}
 use Rattle.descriptor_record.specs.Read.{declared, descriptor_of, byte_offends, offends, head_tested}
 use Rattle.shelf_status.specs.ShelfStatus.{verdict_at, shown_at, code_at, worst, page_bits}
@@ -41,10 +42,7 @@ use Rattle.control_page.specs.Brought.{settings_after, brought_to}
 use Rattle.status_page.specs.Page.{slot_bytes, page_with, status_page, shown_in}
 use Rattle.threshold_page_out.specs.Tests as thresholds
 use Rattle.refusals.specs.declared.Refusal.TheVariants.{PageCode, Unreachable, NeededLength}
-use Rattle.refusals.specs.declared.Answer.TheVariants as answer
-use Rattle.refusals.specs.declared.Answer.TheVariants.{Accepted}
-use Rattle.refusals.specs.declared.PageAnswer.{PageAnswer}
-use Rattle.refusals.specs.Numbers.{number_of, page_number, page_offset}
+use Rattle.refusals.specs.Numbers.{number_of, page_number, page_offset, answer_number}
 use Rattle.refusals.specs.Outcomes.{next, of_page, offence_tested, page_next, accepts}
 use Rattle.collector.specs.Collector.{most_kept, most_counted, at_most, page_of, collected_all, emptied}
 use Rattle.collector.proofs.Held.{Holds as Collects, holds_none, emptied_counts, holds_chunks, count_collected, held_alike}
@@ -54,7 +52,6 @@ use Rattle.collected_page.proofs.NotKept.{front_decides}
 use Rattle.build_order.specs.Search.{cost, better, best}
 use Rattle.build_element.specs.Wishes.{in_reach, alike, request_bytes, own, brings, one}
 use Rattle.build_element.specs.Parts.{tried, tries}
-use Rattle.build_page.specs.declared.built.Built.TheVariants.{Refused}
 use Rattle.build_page.specs.Promise.{may_be, wish_tested, selects_on, Reaching}
 use Rattle.build_page.specs.Page.{search_in, overall_in, row_under, row_for, selects_for, control_page, reachable}
 use Rattle.build_page.proofs.FirstPage.{made_selects}
@@ -63,6 +60,7 @@ use Rattle.build_page.proofs.PromiseLaws.{wish_taken, selects_needed}
 use Rattle.paper.specs.Table.{Case, shows, judges, tells, builds, reaches, refuses, answers, describes, finds, reads, counts, ends, limits, none, types_a, front_a, shelf_a, OfA, middle_named, OfNamed, HasStatus, Gets, ReachedBy, RefusedBy, Answers, HasNames, Finds, ReadsNames, EndsBy, Holds, AllHold, stopped_fans, from_the_bus, shown_fail, table}
 use Rattle.paper.specs.Errors.{errors}
 use Rattle.paper.proofs.NamesOfA.{read_rest, read_so, middle_name, standing, described_so, found_so, found_so_lem}
+use Rattle.refusals.specs.Answers.{PageAnswer}
 
 -- a test that each number is a byte
 abbrev all_bytes : List ℕ → Bool
@@ -95,16 +93,16 @@ wish_rest s w = eqb (length w) (4 * elements_of s) && all_below (may_be s w) (el
 -- and of the tests of a control page for it, whose offending byte is searched slot by slot
 abbrev page_rest : List ℕ → List ℕ → PageAnswer
 page_rest s p =
-    page_next (headed s p 0x02 (slots_of s)) (offence_tested (pick (first_allows p) (offence_in slot_place (slot_offending s p) (slots_of s)) 1) (slot_place (slots_of s)) Accepted)
+    page_next (headed s p 0x02 (slots_of s)) (offence_tested (pick (first_allows p) (offence_in slot_place (slot_offending s p) (slots_of s)) 1) (slot_place (slots_of s)) (Ok tt))
 
 -- of a page of which a code is meant, by the bytes x and z zeros behind them: one longer than the largest by its first bytes and its length
 abbrev meant_rest : List ℕ → List ℕ → ℕ → ℕ → PageAnswer
 meant_rest s x z code =
     let p = x ++ replicate z 0 in
-    pick (ltb most_kept (length x + z)) (of_page (next (meant_code p code) (next (given_tested p (length x + z)) (answer.Refused NeededLength))))
+    pick (ltb most_kept (length x + z)) (of_page (next (meant_code p code) (next (given_tested p (length x + z)) (Err NeededLength))))
     (pick (eqb code 0x02) (page_rest s p)
     (pick (eqb code 0x05) (thresholds.thresholds_tested s p)
-    (of_page (next (size_tested p) (answer.Refused PageCode)))))
+    (of_page (next (size_tested p) (Err PageCode)))))
 
 -- the page that is made, where o is the overall element of its one type: so that is searched once, and not for each slot
 abbrev page_under : List ℕ → List ℕ → List ℕ → List ℕ
@@ -137,7 +135,7 @@ given i m (describes f x p) =
     (num (shelf_rest s) ∷ num (standing s x) ∷ []) ∷ descriptor_page s (middle_name x) 4 ∷ []
 given i m (finds f x y j) =
     let s = named_a i f x in
-    (num (shelf_rest s) ∷ num (standing s x) ∷ found_number (found_so x y) ∷ element_found (found_so x y) ∷ []) ∷ []
+    (num (shelf_rest s) ∷ num (standing s x) ∷ answer_number (found_so x y) ∷ element_found (found_so x y) ∷ []) ∷ []
 given i m (reads p n k) =
     let c = front_a (bytes_at i 0 36) in
     (page_number (read_rest c p) ∷ page_offset (read_rest c p) ∷ []) ∷ []
@@ -234,7 +232,7 @@ module _ (i : List ℕ) where
     finds_so y j e =
         let a =
         found_so_lem shelf x y (yes (standing shelf x) (number 1 e)) (three i rest) (formed i rest (yes (shelf_rest shelf) (number 0 e))) (own_slot_lem i rest) in
-        (ap found_number a ∙ number 2 e, ap element_found a ∙ number 3 e)
+        (ap answer_number a ∙ number 2 e, ap element_found a ∙ number 3 e)
 
 module _ (i m f : List ℕ) where
   abbrev s : List ℕ
@@ -302,7 +300,7 @@ module _ (i m f : List ℕ) where
         (ap page_number a ∙ number 2 e, ap page_offset a ∙ number 3 e)
 
   module _ (w : List ℕ) where
-    taken : shelf_rest s ≡ true → wish_rest s w ≡ true → wish_tested s w ≡ Accepted
+    taken : shelf_rest s ≡ true → wish_rest s w ≡ true → wish_tested s w ≡ Ok tt
     taken t u = wish_taken s w (well_formed_lem t) (eqb-true _ _ (and_left _ _ u)) (and_right (eqb (length w) (4 * elements_of s)) _ u)
 
     made : control_page s w ≡ page_under s w (overall_in s w 0)
@@ -342,7 +340,7 @@ module _ (i m f : List ℕ) where
     refused : (n : ℕ) → given i m (refuses f w n) ≡ told (refuses f w n) → RefusedBy w n s
     unfolding given told
     refused n e out = (
-      Refused Unreachable,
+      Err Unreachable,
       none_reaches s w out refl (taken (yes (shelf_rest s) (number 0 e)) (yes (wish_rest s w) (number 1 e))) refl refl (no (all_below (reachable s w) (elements_of s)) (number 2 e)),
       number 3 e,
     )

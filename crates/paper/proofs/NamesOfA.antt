@@ -1,4 +1,5 @@
 -- What antt computes of names: searches from the front, byte by byte, and the names of a shelf like A from its bytes. Assumes nothing.
+use Rattle.std.specs.Prelude.{Ok}
 use mathlib.Core.Path.{◌≡◌, refl, sym, ap, ◌∙◌}
 use mathlib.Core.Bool.{Bool, true, ◌&&◌}
 use mathlib.Core.List.{List, []}
@@ -10,22 +11,20 @@ use Rattle.bits.specs.Choice.{pick, all_below, first_below}
 use Rattle.bits.specs.Texts.{same_bytes}
 use Rattle.bits.proofs.Logic.{by_case, pick_yes, pick_no, and_left, and_right, and_both, fails, below_at, first_at, first_none, first_same}
 use Rattle.bits.proofs.Texts.{same_at}
-use Rattle.refusals.specs.declared.Answer.TheVariants.{Accepted}
-use Rattle.refusals.specs.declared.PageAnswer.{PageAnswer}
 use Rattle.refusals.specs.Outcomes.{offence_tested, page_next}
 use Rattle.shelf.specs.Limits.{most_text, name_place}
 use Rattle.shelf.specs.Types.{elements_of}
 use Rattle.shelf_formed.specs.Formed.{well_formed, configuration_formed}
 use Rattle.page.specs.Slots.{slots_of}
 use Rattle.page.specs.Places.{own_slot}
-use Rattle.names.specs.declared.finding.Found.{Found}
 use Rattle.names.specs.Name.{name_in, is_name, padded, equal}
 use Rattle.names.specs.Names.{name_of}
-use Rattle.names.specs.Found.{named, first_named, found_at, found}
+use Rattle.names.specs.Found.{named, first_named, found_at, found, FindAnswer}
 use Rattle.names.proofs.NameBack.{name_back}
 use Rattle.descriptor_page.specs.Page.{descriptor_page, names_page}
 use Rattle.descriptor_page.proofs.SamePages.{page_same}
 use Rattle.descriptor_record.specs.Read.{place_on, offends, head_tested, bytes_tested, page_tested, names_read}
+use Rattle.refusals.specs.Answers.{PageAnswer}
 
 -- the first number from k on at which the test passes, of m numbers: that takes a step for each
 abbrev pub seek : (ℕ → Bool) → ℕ → ℕ → ℕ
@@ -44,14 +43,14 @@ seek_first f (suc m) k t =
 abbrev pub read_rest : List ℕ → List ℕ → PageAnswer
 read_rest c p =
     let n : ℕ = slots_of c in
-    page_next (head_tested c p n) (offence_tested (seek (offends p n) (place_on p n) 0) (place_on p n) Accepted)
+    page_next (head_tested c p n) (offence_tested (seek (offends p n) (place_on p n) 0) (place_on p n) (Ok tt))
 
 pub read_so : (c p : List ℕ) → configuration_formed c ≡ true → names_read c p ≡ read_rest c p
 unfolding names_read page_tested bytes_tested
 read_so c p w =
     let n = slots_of c in
     let e = ap (first_below (offends p n)) (sym (zero-add (place_on p n))) ∙ sym (seek_first (offends p n) (place_on p n) 0 refl) in
-    rw w (ap (λ (k : ℕ). page_next (head_tested c p n) (offence_tested k (place_on p n) Accepted)) e)
+    rw w (ap (λ (k : ℕ). page_next (head_tested c p n) (offence_tested k (place_on p n) (Ok tt))) e)
 
 -- the name of slot i, if the second element of the first type is called x and nothing else has a name
 abbrev pub middle_name : List ℕ → ℕ → List ℕ
@@ -85,7 +84,7 @@ module _ (s x : List ℕ) (t : standing s x ≡ true) (n : elements_of s ≡ 3) 
 abbrev pub named_so : List ℕ → List ℕ → ℕ → Bool
 named_so x y j = equal (middle_name x (j + 1)) y
 
-abbrev pub found_so : List ℕ → List ℕ → Found
+abbrev pub found_so : List ℕ → List ℕ → FindAnswer
 found_so x y = found_at (first_below (named_so x y) 3) 3
 
 pub found_so_lem : (s x y : List ℕ) → standing s x ≡ true → elements_of s ≡ 3 → well_formed s ≡ true → ((j : ℕ) → j < 3 → own_slot s j ≡ j + 1)

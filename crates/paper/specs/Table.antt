@@ -9,18 +9,17 @@ use Rattle.element.specs.declared.verdict.Verdict.{Verdict}
 use Rattle.element.specs.Settings.{settings_of}
 use Rattle.element.specs.Types.{verdict_of}
 use Rattle.element.specs.Status.{shown_by, status_bytes}
-use Rattle.refusals.specs.Numbers.{page_number, page_offset}
+use Rattle.refusals.specs.Numbers.{page_number, page_offset, answer_number}
 use Rattle.shelf_formed.specs.Formed.{well_formed}
 use Rattle.page.specs.Slots.{slot_place}
 use Rattle.control_page.specs.Tests.{control_tested}
-use Rattle.names.specs.Found.{found, found_number, element_found}
+use Rattle.names.specs.Found.{found, element_found}
 use Rattle.descriptor_page.specs.Page.{names_page}
 use Rattle.descriptor_record.specs.Read.{names_read}
 use Rattle.status_page.specs.Page.{status_page}
 use Rattle.collector.specs.Collector.{HasRoom, count_of, page_of, collected, collected_all, joined_all, emptied}
 use Rattle.collected_page.specs.Meant.{meant_tested}
-use Rattle.build_page.specs.declared.built.Built.{Built}
-use Rattle.build_page.specs.Outcome.{built_number, built_of, left_by}
+use Rattle.build_page.specs.Outcome.{built_of, left_by, BuildAnswer}
 use Rattle.build_page.specs.Promise.{selects_on, Reaching, Promised}
 
 pub data Case : Type 0 where
@@ -99,7 +98,7 @@ ReachedBy w p n s =
 
 -- the wish w is refused by the number n, and every output buffer is left as it was
 abbrev pub RefusedBy : List ℕ → ℕ → List ℕ → Type 0
-RefusedBy w n s = (out : List ℕ) → (r : Built) × Promised s w out r out × (built_number r ≡ n)
+RefusedBy w n s = (out : List ℕ) → (r : BuildAnswer) × Promised s w out r out × (answer_number r ≡ n)
 
 -- it answers the control page p by the number n and the offset k
 abbrev pub Answers : List ℕ → ℕ → ℕ → List ℕ → Type 0
@@ -111,7 +110,7 @@ HasNames p s = (well_formed s ≡ true) × (names_page s ≡ p)
 
 -- no refusal, and the text x finds the element with the number j
 abbrev pub Finds : List ℕ → ℕ → List ℕ → Type 0
-Finds x j s = (found_number (found s x) ≡ 0) × (element_found (found s x) ≡ j)
+Finds x j s = (answer_number (found s x) ≡ 0) × (element_found (found s x) ≡ j)
 
 -- with the configuration c the page of names p is answered by the number n and the offset k
 abbrev pub ReadsNames : List ℕ → ℕ → ℕ → List ℕ → Type 0

@@ -4,7 +4,6 @@ use mathlib.Core.Path.{◌≡◌, sym, ap, subst, ◌∙◌}
 use mathlib.Core.List.{List, [], ◌∷◌}
 use Prim.Native.Nat.{ℕ}
 use Rattle.bits.specs.Numbers.{Bytes}
-use Rattle.refusals.specs.declared.PageAnswer.{PageAnswer}
 use Rattle.collector.specs.Collector.{HasRoom, page_of, AlikeKept, collected_all}
 use Rattle.collector.proofs.Held.{Holds, holds_none, holds_chunks, held_alike, emptied_counts}
 use Rattle.collected_page.proofs.NotKept.{front_decides}
@@ -12,6 +11,7 @@ use Rattle.promises.specs.Promises.{ApplyControl, ApplyThresholds, EmptyCollecto
 use Rattle.promises.specs.PromisesForC.{ApplyControlForC, ApplyThresholdsForC, EndPageForC}
 use Rattle.promises.specs.Bus.{Event, chunk, shelf, Happens, chunks_of, bytes_put, Empty, AsOne}
 use Rattle.promises.proofs.NoTwoOutcomes.{meant}
+use Rattle.refusals.specs.Answers.{PageAnswer}
 
 -- the collector has had all chunks, whatever became of the shelf
 chunks_put : (es : List Event) (c s d x : List ℕ) → Happens es c s d x → d ≡ collected_all c (chunks_of es)

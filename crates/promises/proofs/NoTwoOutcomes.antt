@@ -2,19 +2,15 @@
 use mathlib.Core.Path.{◌≡◌, sym, ap, ◌∙◌}
 use mathlib.Core.List.{List}
 use Prim.Native.Nat.{ℕ}
-use Rattle.refusals.specs.declared.Answer.{Answer}
-use Rattle.refusals.specs.declared.PageAnswer.{PageAnswer}
-use Rattle.refusals.specs.declared.Written.{Written}
-use Rattle.refusals.specs.Numbers.{answer_number, page_number, page_offset, written_number, bytes_written}
-use Rattle.names.specs.declared.finding.Found.{Found}
-use Rattle.names.specs.Found.{found_number, element_found}
+use Rattle.refusals.specs.Numbers.{answer_number, page_number, page_offset, bytes_written}
+use Rattle.names.specs.Found.{element_found, FindAnswer}
 use Rattle.collector.specs.Collector.{page_of}
-use Rattle.build_page.specs.declared.built.Built.{Built}
-use Rattle.build_page.specs.Outcome.{built_number, bytes_built, selects_built}
+use Rattle.build_page.specs.Outcome.{bytes_built, selects_built, BuildAnswer}
 use Rattle.build_page.proofs.PromiseKept.{settles}
 use Rattle.promises.specs.Promises.{Check, WriteConfiguration, WriteStatus, WriteThresholds, WriteDescriptors, ReadConfiguration, ReadStatus, ReadThresholds, ReadDescriptors, RewriteConfiguration, RewriteStatus, RewriteThresholds, RewriteDescriptors, ApplyControl, ApplyThresholds, EmptyCollector, PutChunk, Meant, EndPage, BuildControl, FindName, SetName, SetOverallName}
 use Rattle.promises.specs.PromisesForC.{Numbered, NumberedPage, NumberedWritten, NumberedBuilt, CheckForC, WriteConfigurationForC, WriteStatusForC, WriteThresholdsForC, WriteDescriptorsForC, ReadConfigurationForC, ReadStatusForC, ReadThresholdsForC, ReadDescriptorsForC, RewriteConfigurationForC, RewriteStatusForC, RewriteThresholdsForC, RewriteDescriptorsForC, ApplyControlForC, ApplyThresholdsForC, EmptyCollectorForC, PutChunkForC, EndPageForC, BuildControlForC, FindNameForC, SetNameForC, SetOverallNameForC}
 use Rattle.promises.specs.Settled.{OneAnswer, OneOutcome, OneTold, OneBuilt, OneFound, OneBoth, OneBothTold}
+use Rattle.refusals.specs.Answers.{Answer, PageAnswer, Counted}
 
 -- an answer that is told, and memory that follows from it
 told : {R : Type 0} (a : R) (f : R → List ℕ) → OneOutcome (λ (r : R) (o : List ℕ). (r ≡ a) × (o ≡ f r))
@@ -31,16 +27,16 @@ numbered_page u n m y z b c h l =
     let e = u h.0 l.0 y z h.1 l.1 in
     (h.2 ∙ ap page_number e.0 ∙ sym l.2, e.1, h.3 ∙ ap page_offset e.0 ∙ sym l.3)
 
-numbered_written : {P : Written → List ℕ → Type 0} → OneOutcome P → OneTold (λ (n : ℕ) (o : List ℕ) (b : ℕ). NumberedWritten (λ r. P r o) n b)
+numbered_written : {P : Counted → List ℕ → Type 0} → OneOutcome P → OneTold (λ (n : ℕ) (o : List ℕ) (b : ℕ). NumberedWritten (λ r. P r o) n b)
 numbered_written u n m y z b c h l =
     let e = u h.0 l.0 y z h.1 l.1 in
-    (h.2 ∙ ap written_number e.0 ∙ sym l.2, e.1, h.3 ∙ ap bytes_written e.0 ∙ sym l.3)
+    (h.2 ∙ ap answer_number e.0 ∙ sym l.2, e.1, h.3 ∙ ap bytes_written e.0 ∙ sym l.3)
 
-numbered_built : {P : Built → List ℕ → Type 0} → OneOutcome P
+numbered_built : {P : BuildAnswer → List ℕ → Type 0} → OneOutcome P
     → OneBuilt (λ (n : ℕ) (o : List ℕ) (b k : ℕ). NumberedBuilt (λ r. P r o) n b k)
 numbered_built u n m y z b c k j h l =
     let e = u h.0 l.0 y z h.1 l.1 in (
-      h.2 ∙ ap built_number e.0 ∙ sym l.2,
+      h.2 ∙ ap answer_number e.0 ∙ sym l.2,
       e.1,
       h.3 ∙ ap bytes_built e.0 ∙ sym l.3,
       h.4 ∙ ap selects_built e.0 ∙ sym l.4,
@@ -182,8 +178,8 @@ ses_build_control shelf wanted out = numbered_built (build_control shelf wanted 
 
 pub ses_find_name : (shelf text : List ℕ) → OneFound (FindNameForC shelf text)
 ses_find_name shelf text n m b c h l =
-    let e : ◌≡◌ {A = Found} h.0 l.0 = find_name shelf text h.0 l.0 h.1 l.1 in
-    (h.2 ∙ ap found_number e ∙ sym l.2, h.3 ∙ ap element_found e ∙ sym l.3)
+    let e : ◌≡◌ {A = FindAnswer} h.0 l.0 = find_name shelf text h.0 l.0 h.1 l.1 in
+    (h.2 ∙ ap answer_number e ∙ sym l.2, h.3 ∙ ap element_found e ∙ sym l.3)
 
 pub ses_set_name : (shelf : List ℕ) (element : ℕ) (text : List ℕ) → OneOutcome (SetNameForC shelf element text)
 ses_set_name shelf element text = numbered (set_name shelf element text)

@@ -1,4 +1,5 @@
 -- Each of the six pages is answered by the one order of tests, and so is a page by the code meant. Assumes nothing.
+use Rattle.std.specs.Prelude.{Ok, Err}
 use mathlib.Core.Path.{◌≡◌, refl, sym, ap, ◌∙◌}
 use mathlib.Core.Bool.{Bool, true, false}
 use mathlib.Core.List.{List}
@@ -7,9 +8,6 @@ use lib.Dec.{eqb, leb}
 use lib.ListN.{length, get_or}
 use Rattle.bits.specs.Choice.{pick, first_below}
 use Rattle.refusals.specs.declared.Refusal.TheVariants.{ShelfNotWellFormed, PageTooShort, PageCode, PageLength, Generation, NoSuchThreshold, ThresholdOrder, NeededLength}
-use Rattle.refusals.specs.declared.Answer.{Answer}
-use Rattle.refusals.specs.declared.Answer.TheVariants.{Accepted, Refused}
-use Rattle.refusals.specs.declared.PageAnswer.{PageAnswer}
 use Rattle.refusals.specs.Outcomes.{unless, next, of_page, not_allowed_at, offence_tested, page_next}
 use Rattle.shelf_formed.specs.Formed.{well_formed, configuration_formed}
 use Rattle.page.specs.Slots.{slots_of, slot_place}
@@ -23,12 +21,13 @@ use Rattle.control_page.specs.Tests as control
 use Rattle.threshold_page_out.specs.Tests as thresholds
 use Rattle.collected_page.specs.Meant.{other_tested, meant_tested}
 use Rattle.promises.specs.Order.{own_order, order, in_order, configuration_tests, descriptor_tests, status_tests, limit_tests, control_tests, taken_tests, other_tests, meant_tests}
+use Rattle.refusals.specs.Answers.{Answer, PageAnswer}
 
 -- the stages of the header, as a list of tests
 head_stages : Bool → Bool → Bool → Bool → Bool → Answer
 head_stages size code said needed generation =
-    next (next (unless size PageTooShort Accepted) (next (unless code PageCode Accepted) (unless said PageLength Accepted)))
-    (next (unless needed NeededLength Accepted) (unless generation Generation Accepted))
+    next (next (unless size PageTooShort (Ok tt)) (next (unless code PageCode (Ok tt)) (unless said PageLength (Ok tt))))
+    (next (unless needed NeededLength (Ok tt)) (unless generation Generation (Ok tt)))
 
 head_order : (size code said needed generation : Bool) (own : PageAnswer)
     → page_next (head_stages size code said needed generation) own ≡ order true size code said needed generation own
@@ -41,22 +40,22 @@ head_order true false s n g own = refl
 head_order false c s n g own = refl
 
 join : (a b : Answer) (rest : PageAnswer) → page_next (next a b) rest ≡ page_next a (page_next b rest)
-join Accepted b rest = refl
-join (Refused r) b rest = refl
+join (Ok _) b rest = refl
+join (Err r) b rest = refl
 
 all_order : (formed size code said needed generation : Bool) (own : PageAnswer)
-    → page_next (unless formed ShelfNotWellFormed Accepted) (page_next (head_stages size code said needed generation) own)
+    → page_next (unless formed ShelfNotWellFormed (Ok tt)) (page_next (head_stages size code said needed generation) own)
     ≡ order formed size code said needed generation own
 all_order true size code said needed generation own = head_order size code said needed generation own
 all_order false size code said needed generation own = refl
 
 -- behind it 7, 8
 own_order_lem : (k end : ℕ) (had ordered : Bool)
-    → offence_tested k end (next (unless had NoSuchThreshold Accepted) (unless ordered ThresholdOrder Accepted)) ≡ own_order k end had ordered
+    → offence_tested k end (next (unless had NoSuchThreshold (Ok tt)) (unless ordered ThresholdOrder (Ok tt))) ≡ own_order k end had ordered
 own_order_lem k end had ordered = go (eqb k end) had ordered
   where
-    go : (t h o : Bool) → pick t (of_page (next (unless h NoSuchThreshold Accepted) (unless o ThresholdOrder Accepted))) (not_allowed_at k)
-        ≡ pick t (pick h (pick o (of_page Accepted) (of_page (Refused ThresholdOrder))) (of_page (Refused NoSuchThreshold))) (not_allowed_at k)
+    go : (t h o : Bool) → pick t (of_page (next (unless h NoSuchThreshold (Ok tt)) (unless o ThresholdOrder (Ok tt)))) (not_allowed_at k)
+        ≡ pick t (pick h (pick o (of_page (Ok tt)) (of_page (Err ThresholdOrder))) (of_page (Err NoSuchThreshold))) (not_allowed_at k)
     go true true true = refl
     go true true false = refl
     go true false o = refl
@@ -79,7 +78,7 @@ module _ (c p : List ℕ) (code : ℕ) (own : PageAnswer) where
   unfolding page_tested headed framed size_tested code_tested said_tested length_said length_tested generation_tested head_stages
   shelf_order =
       let h = head_stages size coded (length_said p) needed generation in
-      join (unless (well_formed c) ShelfNotWellFormed Accepted) h own ∙ all_order (well_formed c) size coded (length_said p) needed generation own
+      join (unless (well_formed c) ShelfNotWellFormed (Ok tt)) h own ∙ all_order (well_formed c) size coded (length_said p) needed generation own
 
   page_order : page_next (configuration_tested c) (page_next (headed c p code (slots_of c)) own)
       ≡ order (configuration_formed c) size coded (length_said p) needed generation own
@@ -92,14 +91,14 @@ configuration_order p =
     let k = first_below (configuration.offends p) (length p) in
     let said = length_said p in
     let needed = eqb (length p) (configuration.needed_length p) in
-    let frame = next (unless (leb 4 (length p)) PageTooShort Accepted) (next (unless (eqb (get_or p 0 0) 0x01) PageCode Accepted) (unless said PageLength Accepted)) in
-    let own = offence_tested k (length p) Accepted in
-    sym (join frame (unless needed NeededLength Accepted) own)
+    let frame = next (unless (leb 4 (length p)) PageTooShort (Ok tt)) (next (unless (eqb (get_or p 0 0) 0x01) PageCode (Ok tt)) (unless said PageLength (Ok tt))) in
+    let own = offence_tested k (length p) (Ok tt) in
+    sym (join frame (unless needed NeededLength (Ok tt)) own)
     ∙ ap (λ (a : Answer). page_next (next frame a) own) (sym (last needed))
     ∙ head_order (leb 4 (length p)) (eqb (get_or p 0 0) 0x01) said needed true own
     ∙ ap (order true (leb 4 (length p)) (eqb (get_or p 0 0) 0x01) said needed true) (own_order_lem k (length p) true true)
   where
-    last : (t : Bool) → next (unless t NeededLength Accepted) Accepted ≡ unless t NeededLength Accepted
+    last : (t : Bool) → next (unless t NeededLength (Ok tt)) (Ok tt) ≡ unless t NeededLength (Ok tt)
     last true = refl
     last false = refl
 
@@ -150,8 +149,8 @@ other_order : (s p : List ℕ) → of_page (other_tested s p) ≡ in_order (othe
 unfolding other_tested size_tested
 other_order s p = go (well_formed s) (leb 4 (length p))
   where
-    go : (a b : Bool) → of_page (next (unless a ShelfNotWellFormed Accepted) (next (unless b PageTooShort Accepted) (Refused PageCode)))
-        ≡ pick a (pick b (of_page (Refused PageCode)) (of_page (Refused PageTooShort))) (of_page (Refused ShelfNotWellFormed))
+    go : (a b : Bool) → of_page (next (unless a ShelfNotWellFormed (Ok tt)) (next (unless b PageTooShort (Ok tt)) (Err PageCode)))
+        ≡ pick a (pick b (of_page (Err PageCode)) (of_page (Err PageTooShort))) (of_page (Err ShelfNotWellFormed))
     go true true = refl
     go true false = refl
     go false b = refl

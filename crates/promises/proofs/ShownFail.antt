@@ -1,5 +1,6 @@
 -- A sensor shows FAIL exactly if it is stored or the code is 2 or 3, which is where a limit trips; a fan exactly if it is stored. A control page
 -- that clears it leaves it showing as long as a limit trips, and the reader hands back what is shown. Assumes nothing.
+use Rattle.std.specs.Prelude.{Ok}
 use mathlib.Core.Path.{◌≡◌, refl, sym, ap, subst, ◌∙◌}
 use mathlib.Core.Bool.{Bool, true, false, ◌||◌}
 use mathlib.Core.List.{List}
@@ -20,9 +21,6 @@ use Rattle.element.specs.Verdict.{detected, judged, unlimited, above, below, ove
 use Rattle.element.specs.Types.{has_fail, fail_shown, verdict_of}
 use Rattle.element.specs.Settings.{settings_of}
 use Rattle.element.specs.Status.{entry_of, entry_by}
-use Rattle.refusals.specs.declared.PageAnswer.{PageAnswer}
-use Rattle.refusals.specs.declared.PageAnswer.TheVariants.{Accepted}
-use Rattle.refusals.specs.declared.Written.{Written}
 use Rattle.shelf.specs.Types.{elements_of, kind_at}
 use Rattle.shelf.specs.Elements.{settings_at, thresholds_at, reading_at, nominal_at}
 use Rattle.shelf_formed.specs.Formed.{well_formed}
@@ -46,6 +44,7 @@ use Rattle.promises.specs.Promises.{ApplyControl, ReadStatus, RewriteStatus}
 use Rattle.promises.specs.ShownFail.{Sensor, own_place, code_on, fail_on, fan_fail_on, tripped}
 use Rattle.promises.proofs.Exactly.{control_exactly, control_formed, control_front}
 use Rattle.promises.proofs.ReadAndRewritten.{handed, status_again}
+use Rattle.refusals.specs.Answers.{PageAnswer, Counted}
 
 -- what holds of the three sensors holds of each
 by_sensor : (P : Kind → Type 0) → P Temperature → P Voltage → P Current → (k : Kind) → Sensor k → P k
@@ -163,7 +162,7 @@ module _ (s : List ℕ) (hs : Bytes s) (w : well_formed s ≡ true) (j : ℕ) (l
     limits_light = fail_told ∙ ap (λ (b : Bool). num (has_fail e || b)) trips_told
 
 -- the same of the shelf x that an accepted control page makes of s
-module _ (s p x : List ℕ) {r : PageAnswer} (hs : Bytes s) (hx : Bytes x) (a : ApplyControl s p r x) (u : r ≡ Accepted) (j : ℕ) (l : j < elements_of s)
+module _ (s p x : List ℕ) {r : PageAnswer} (hs : Bytes s) (hx : Bytes x) (a : ApplyControl s p r x) (u : r ≡ Ok tt) (j : ℕ) (l : j < elements_of s)
     (k : Sensor (kind_at s j)) where
   formed : well_formed s ≡ true
   formed = (control_formed s p a u).0
@@ -222,7 +221,7 @@ module _ (s p x : List ℕ) {r : PageAnswer} (hs : Bytes s) (hx : Bytes x) (a : 
         (fail_stored ∙ f, asked_shows ∙ ap num (or_yes (has_fail (request_for s p j)) (trips_told s hs formed j l k ∙ t)))
 
 -- of whatever page is accepted, the reader hands back the FAIL and the code that the page shows
-module _ (c p old : List ℕ) {r : PageAnswer} {f : List ℕ} (h : ReadStatus c p old r f) (u : r ≡ Accepted) (j : ℕ) (l : j < elements_of c) where
+module _ (c p old : List ℕ) {r : PageAnswer} {f : List ℕ} (h : ReadStatus c p old r f) (u : r ≡ Ok tt) (j : ℕ) (l : j < elements_of c) where
   handed_back : entry_at f (own_slot c j) ≡ entry_of (kind_at c j) (four_at p (own_place c j))
   unfolding status_record slot_shown
   handed_back =
@@ -243,6 +242,6 @@ module _ (c p old : List ℕ) {r : PageAnswer} {f : List ℕ} (h : ReadStatus c 
 
 -- a shelf's own page is accepted, and written again byte for byte; that both are bytes is so of whatever is in memory
 pub own_again : (s old out : List ℕ) → Bytes s → Bytes (front s) → Bytes (status_page s) → well_formed s ≡ true
-    → {r : PageAnswer} {f : List ℕ} {w : Written} {o : List ℕ}
+    → {r : PageAnswer} {f : List ℕ} {w : Counted} {o : List ℕ}
     → ReadStatus (front s) (status_page s) old r f → RewriteStatus (front s) f out w o → WrittenAgain (status_page s) out w o
 own_again s old out hs hf hp w h g = status_again (front s) (status_page s) old out hf hp h (h.0 ∙ told_read s hs w) g

@@ -1,4 +1,5 @@
 -- A status page that was accepted is written again as the same bytes. Assumes nothing.
+use Rattle.std.specs.Prelude.{Ok}
 use mathlib.Core.Path.{◌≡◌, refl, sym, ap, ap₂, ◌∙◌}
 use mathlib.Core.Bool.{Bool, true, false}
 use mathlib.Core.List.{List, [], ◌∷◌, ◌++◌}
@@ -18,8 +19,6 @@ use Rattle.bits.proofs.Halves.{again_byte}
 use Rattle.bits.specs.Numbers.{Bytes}
 use Rattle.bits.specs.Rows.{joined}
 use Rattle.bits.proofs.Rows.{joined_same, fours}
-use Rattle.refusals.specs.declared.Answer.TheVariants.{Accepted}
-use Rattle.refusals.specs.declared.PageAnswer.TheVariants as page
 use Rattle.record_head.specs.Head.{count_tested}
 use Rattle.record_head.proofs.Counted.{count_back}
 use Rattle.shelf.specs.Limits.{most_types, most_elements}
@@ -119,8 +118,8 @@ own_again : (b : ℕ) → b < 256 → only (2 ∷ 1 ∷ []) b ≡ true → nibbl
 own_again = again_byte (2 ∷ 1 ∷ []) (λ b. nibble false (bit 2 b) (bit 1 b) false) refl
 
 -- writing again what an accepted reading gave, whatever stands behind it
-module _ (c p rest : List ℕ) (hc : Bytes c) (hp : Bytes p) (a : status_read c p ≡ page.Accepted) where
-  passed : (configuration_formed c ≡ true) × (headed c p 0x02 (slots_of c) ≡ Accepted) × (offence c p (slots_of c) ≡ slot_place (slots_of c))
+module _ (c p rest : List ℕ) (hc : Bytes c) (hp : Bytes p) (a : status_read c p ≡ Ok tt) where
+  passed : (configuration_formed c ≡ true) × (headed c p 0x02 (slots_of c) ≡ Ok tt) × (offence c p (slots_of c) ≡ slot_place (slots_of c))
   passed = read_parts c p a
 
   no_offence : offence c p (slots_of c) ≡ slot_place (slots_of c)
@@ -143,10 +142,10 @@ module _ (c p rest : List ℕ) (hc : Bytes c) (hp : Bytes p) (a : status_read c 
   unfolding entry_formed
   entry_fine i l = ap (λ (x : List ℕ). fit (slot_most (slot_at c i)) x 16) (entry_told i l) ∙ shown_fine c p hp i (fine i l)
 
-  pub tested_again : record_tested c record_told ≡ Accepted
+  pub tested_again : record_tested c record_told ≡ Ok tt
   unfolding record_tested entries_tested entries_formed status_record
   tested_again =
-      let n : count_tested record_told (slots_of c) ≡ Accepted = count_back _ _ (slots_of c) (joined (slot_shown c p) (slots_of c) ++ rest) (omega (arith, few)) in
+      let n : count_tested record_told (slots_of c) ≡ (Ok tt) = count_back _ _ (slots_of c) (joined (slot_shown c p) (slots_of c) ++ rest) (omega (arith, few)) in
       rw (
         passed.0,
         n,

@@ -1,5 +1,6 @@
 -- A fan shows its stored SPEED while it is ON, and 0 while it is stopped; stopping keeps the stored one, and a fan that is started again
 -- shows it as before. Assumes nothing.
+use Rattle.std.specs.Prelude.{Ok}
 use mathlib.Core.Path.{◌≡◌, refl, sym, ap, ◌∙◌}
 use mathlib.Core.Bool.{Bool, true, false}
 use mathlib.Core.List.{List}
@@ -24,8 +25,6 @@ use Rattle.element.specs.Types.{is_on, layout_of}
 use Rattle.element.specs.Settings.{settings_of, settings_bytes, settings_formed}
 use Rattle.element.specs.Status.{entry_of, entry_by}
 use Rattle.element.proofs.StoredSettings.{settings_again}
-use Rattle.refusals.specs.declared.PageAnswer.{PageAnswer}
-use Rattle.refusals.specs.declared.PageAnswer.TheVariants.{Accepted}
 use Rattle.shelf.specs.Limits.{element_place}
 use Rattle.shelf.specs.Types.{kind_at}
 use Rattle.shelf.specs.Elements.{settings_at}
@@ -40,6 +39,7 @@ use Rattle.control_page.specs.Exactly.{Chosen, ChosenByte, record_in, Acted}
 use Rattle.promises.specs.Promises.{ApplyControl}
 use Rattle.promises.specs.StoppedFans.{speed_code, switching, Switches}
 use Rattle.promises.proofs.Exactly.{control_exactly, control_formed, control_front}
+use Rattle.refusals.specs.Answers.{PageAnswer}
 
 -- what slot i of a shelf's status page shows, if it is that of fan j
 module _ (s : List ℕ) (hs : Bytes s) (w : well_formed s ≡ true) (i : ℕ) (l : i < slots_of s) (o : (slot_at s i).overall ≡ false) where
@@ -61,7 +61,7 @@ module _ (s : List ℕ) (hs : Bytes s) (w : well_formed s ≡ true) (i : ℕ) (l
     code_told = sym (ap (λ (x : List ℕ). get_or x 10 0) (told_entry s hs w i l o) ∙ rw k (omega arith)) ∙ entry_told
 
 -- a fan that an accepted page switches, whatever the page asks of other elements
-module _ (on : Bool) (s p x : List ℕ) {r : PageAnswer} (a : ApplyControl s p r x) (u : r ≡ Accepted) (j : ℕ) (t : Switches on s p j) where
+module _ (on : Bool) (s p x : List ℕ) {r : PageAnswer} (a : ApplyControl s p r x) (u : r ≡ Ok tt) (j : ℕ) (t : Switches on s p j) where
   switched : Acted (switching on (record_in s s j)) (record_in s s j) (record_in s x j)
   switched = rw (← t.2) ((control_exactly s p a u).fields j t.0)
 
@@ -72,7 +72,7 @@ module _ (on : Bool) (s p x : List ℕ) {r : PageAnswer} (a : ApplyControl s p r
 no_on : (f : ℕ) → bit 5 (bit_of 6 f * 64 + 0 * 32) ≡ false
 no_on f = ne_eqb ((bit_of 6 f * 64 + 0 * 32) / 32 % 2) 1 (λ e. omega arith)
 
-module _ (s p x : List ℕ) {r : PageAnswer} (hx : Bytes x) (a : ApplyControl s p r x) (u : r ≡ Accepted) (i : ℕ) (l : i < slots_of x)
+module _ (s p x : List ℕ) {r : PageAnswer} (hx : Bytes x) (a : ApplyControl s p r x) (u : r ≡ Ok tt) (i : ℕ) (l : i < slots_of x)
     (o : (slot_at x i).overall ≡ false) (stops : Switches false s p (slot_at x i).first) where
   pub stopped_shows : speed_code (status_page x) i ≡ 0
   stopped_shows =
@@ -88,7 +88,7 @@ on_again b h t =
     (by_byte_if (λ b. bit 5 (bit_and b 96)) (λ b. eqb (bit_of 6 (bit_of 6 (bit_and b 96) * 64 + 0 * 32) * 64 + 1 * 32) (bit_and b 96)) refl b h t)
 
 -- two accepted pages, one after the other
-module _ (s p x q y : List ℕ) {r d : PageAnswer} (hs : Bytes s) (a : ApplyControl s p r x) (u : r ≡ Accepted) (b : ApplyControl x q d y) (v : d ≡ Accepted) where
+module _ (s p x q y : List ℕ) {r d : PageAnswer} (hs : Bytes s) (a : ApplyControl s p r x) (u : r ≡ Ok tt) (b : ApplyControl x q d y) (v : d ≡ Ok tt) where
   w : well_formed s ≡ true
   w = (control_formed s p a u).0
 

@@ -12,7 +12,6 @@ use Rattle.bits.specs.Choice.{pick, first_below}
 use Rattle.bits.specs.Places.{AlikeTo}
 use Rattle.bits.proofs.Logic.{never, pick_no, first_bound, first_passes, first_fails}
 use Rattle.bits.proofs.Offence.{stops_alike}
-use Rattle.refusals.specs.declared.PageAnswer.{PageAnswer}
 use Rattle.refusals.specs.Numbers.{page_number, page_offset}
 use Rattle.refusals.specs.Outcomes.{not_allowed_at}
 use Rattle.page.specs.Slots.{slots_of}
@@ -33,6 +32,7 @@ use Rattle.promises.specs.Promises.{ReadConfiguration, ReadStatus, ReadThreshold
 use Rattle.promises.specs.PromisesForC.{NumberedPage, ReadConfigurationForC, ReadStatusForC, ReadThresholdsForC, ReadDescriptorsForC, ApplyControlForC, ApplyThresholdsForC, EndPageForC}
 use Rattle.promises.specs.Order.{Tests, own_order, order, in_order, PassesTo6, FirstOffending, OffsetTold, configuration_tests, descriptor_tests, status_tests, limit_tests, control_tests, taken_tests, other_tests, meant_tests}
 use Rattle.promises.proofs.PageOrder.{configuration_order, descriptor_order, status_order, limit_order, control_order, taken_order, meant_order}
+use Rattle.refusals.specs.Answers.{PageAnswer}
 
 -- 6, 7 and 8 are not 4, 12 or 0, and 6 tells where
 own_six : (k end : ℕ) (h o : Bool) → page_number (own_order k end h o) ≡ 6 → (k ≡ end → ⊥) × (page_offset (own_order k end h o) ≡ k)

@@ -1,8 +1,8 @@
 -- Pages that come in chunks, while other calls may change the shelf. Assumes nothing.
 use Rattle.std.specs.Prelude.{◌≡◌, List, [], ◌∷◌, ℕ}
-use Rattle.refusals.specs.declared.PageAnswer.{PageAnswer}
 use Rattle.collector.specs.Collector.{HasRoom, count_of, joined_all}
 use Rattle.promises.specs.Promises.{PutChunk, Meant}
+use Rattle.refusals.specs.Answers.{PageAnswer}
 
 pub data Event : Type 0 where
   -- a chunk is put; the shelf is not lent to that call

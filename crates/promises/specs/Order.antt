@@ -1,11 +1,8 @@
 -- The tests of a page, of all six pages alike: the first that does not pass is the answer. Assumes nothing.
-use Rattle.std.specs.Prelude.{◌≡◌, Bool, true, false, List, ℕ, ◌<◌, eqb, leb, length, get_or}
+use Rattle.std.specs.Prelude.{◌≡◌, Bool, true, false, List, ℕ, ◌<◌, eqb, leb, length, get_or, Ok, Err}
 use Rattle.bits.specs.Choice.{pick, first_below}
 use Rattle.refusals.specs.declared.Refusal.{Refusal}
 use Rattle.refusals.specs.declared.Refusal.TheVariants.{ShelfNotWellFormed, PageTooShort, PageCode, PageLength, Generation, NoSuchThreshold, ThresholdOrder, NeededLength}
-use Rattle.refusals.specs.declared.Answer.TheVariants as answer
-use Rattle.refusals.specs.declared.PageAnswer.{PageAnswer}
-use Rattle.refusals.specs.declared.PageAnswer.TheVariants.{Accepted}
 use Rattle.refusals.specs.Outcomes.{of_page, not_allowed_at}
 use Rattle.shelf_formed.specs.Formed.{well_formed, configuration_formed}
 use Rattle.page.specs.Slots.{slots_of, slot_place}
@@ -16,6 +13,7 @@ use Rattle.status_reading.specs.Read as status
 use Rattle.threshold_rows.specs.Rows as rows
 use Rattle.control_page.specs.Tests as control
 use Rattle.threshold_page_out.specs.Tests as thresholds
+use Rattle.refusals.specs.Answers.{PageAnswer}
 
 -- which tests a page passes, under their numbers; 6 is a test of each byte up to the end
 pub record Tests : Type 0 where
@@ -37,14 +35,14 @@ pub record Tests : Type 0 where
   pub ordered : Bool
 
 abbrev pub refusing : Refusal → PageAnswer
-refusing r = of_page (answer.Refused r)
+refusing r = of_page (Err r)
 
 -- 6, 7, 8, where the search for an offending byte ended at k
 abbrev pub own_order : ℕ → ℕ → Bool → Bool → PageAnswer
 own_order k end had ordered =
     pick (eqb k end)
     (pick had
-    (pick ordered Accepted (refusing ThresholdOrder))
+    (pick ordered (Ok tt) (refusing ThresholdOrder))
     (refusing NoSuchThreshold))
     (not_allowed_at k)
 

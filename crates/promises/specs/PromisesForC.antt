@@ -1,15 +1,11 @@
 -- What C is promised of each call, under the call's name: there is an answer as the call in Rattle gives it, and C is told its number,
 -- the offset of an offending byte, the bytes written and the SELECTs. Assumes nothing.
 use Rattle.std.specs.Prelude.{◌≡◌, List, ℕ}
-use Rattle.refusals.specs.declared.Answer.{Answer}
-use Rattle.refusals.specs.declared.PageAnswer.{PageAnswer}
-use Rattle.refusals.specs.declared.Written.{Written}
-use Rattle.refusals.specs.Numbers.{answer_number, page_number, page_offset, written_number, bytes_written}
-use Rattle.names.specs.declared.finding.Found.{Found}
-use Rattle.names.specs.Found.{found_number, element_found}
-use Rattle.build_page.specs.declared.built.Built.{Built}
-use Rattle.build_page.specs.Outcome.{built_number, bytes_built, selects_built}
+use Rattle.refusals.specs.Numbers.{answer_number, page_number, page_offset, bytes_written}
+use Rattle.names.specs.Found.{element_found, FindAnswer}
+use Rattle.build_page.specs.Outcome.{bytes_built, selects_built, BuildAnswer}
 use Rattle.promises.specs.Promises.{Check, WriteConfiguration, WriteStatus, WriteThresholds, WriteDescriptors, ReadConfiguration, ReadStatus, ReadThresholds, ReadDescriptors, RewriteConfiguration, RewriteStatus, RewriteThresholds, RewriteDescriptors, ApplyControl, ApplyThresholds, EmptyCollector, PutChunk, EndPage, BuildControl, FindName, SetName, SetOverallName}
+use Rattle.refusals.specs.Answers.{Answer, PageAnswer, Counted}
 
 -- the answer r keeps the promise P
 abbrev pub Numbered : (Answer → Type 0) → ℕ → Type 0
@@ -19,16 +15,16 @@ Numbered P number = (r : Answer) × P r × (number ≡ answer_number r)
 abbrev pub NumberedPage : (PageAnswer → Type 0) → ℕ → ℕ → Type 0
 NumberedPage P number offset = (r : PageAnswer) × P r × (number ≡ page_number r) × (offset ≡ page_offset r)
 
-abbrev pub NumberedWritten : (Written → Type 0) → ℕ → ℕ → Type 0
-NumberedWritten P number written = (r : Written) × P r × (number ≡ written_number r) × (written ≡ bytes_written r)
+abbrev pub NumberedWritten : (Counted → Type 0) → ℕ → ℕ → Type 0
+NumberedWritten P number written = (r : Counted) × P r × (number ≡ answer_number r) × (written ≡ bytes_written r)
 
-abbrev pub NumberedBuilt : (Built → Type 0) → ℕ → ℕ → ℕ → Type 0
+abbrev pub NumberedBuilt : (BuildAnswer → Type 0) → ℕ → ℕ → ℕ → Type 0
 NumberedBuilt P number written selects =
-    (r : Built) × P r × (number ≡ built_number r) × (written ≡ bytes_built r) × (selects ≡ selects_built r)
+    (r : BuildAnswer) × P r × (number ≡ answer_number r) × (written ≡ bytes_built r) × (selects ≡ selects_built r)
 
 -- of a search, whose element is told too
-abbrev pub NumberedFound : (Found → Type 0) → ℕ → ℕ → Type 0
-NumberedFound P number element = (r : Found) × P r × (number ≡ found_number r) × (element ≡ element_found r)
+abbrev pub NumberedFound : (FindAnswer → Type 0) → ℕ → ℕ → Type 0
+NumberedFound P number element = (r : FindAnswer) × P r × (number ≡ answer_number r) × (element ≡ element_found r)
 
 abbrev pub CheckForC : List ℕ → ℕ → Type 0
 CheckForC shelf number = Numbered (λ r. Check shelf r) number

@@ -5,7 +5,7 @@ ghost use Rattle.std.specs.Prelude.{◌≡◌, ◌≤◌, length};
 ghost use Rattle.bits.specs.Places.{put_four};
 ghost use Rattle.record_head.specs.Head.{record_head, count_tested};
 
-use refusals::{Answer, Refusal};
+use refusals::Refusal;
 
 pub fn put(fields: &mut [u8], first: u8, second: u8, n: u16)
     requires { 4 ≤ length fields.old }
@@ -16,12 +16,12 @@ pub fn put(fields: &mut [u8], first: u8, second: u8, n: u16)
 }
 
 // A record of n entries.
-pub fn test_count(fields: &[u8], n: u16) -> Answer
+pub fn test_count(fields: &[u8], n: u16) -> Result<(), Refusal>
     requires { 4 ≤ length fields.now }
     ensures { result ≡ count_tested fields.now n }
 {
     if bits::big16_at(fields, 2) != n {
-        return Answer::Refused(Refusal::WantedList);
+        return Err(Refusal::WantedList);
     }
-    Answer::Accepted
+    Ok(())
 }

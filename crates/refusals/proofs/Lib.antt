@@ -1,3 +1,4 @@
 pub mod AcceptedTests
 pub mod Left
 pub mod Stages
+pub mod Searches

@@ -6,13 +6,15 @@
 
 ghost use Rattle.promises.specs.PromisesForC.{CheckForC, WriteConfigurationForC, WriteStatusForC, WriteThresholdsForC, WriteDescriptorsForC, ReadConfigurationForC, ReadStatusForC, ReadThresholdsForC, ReadDescriptorsForC, RewriteConfigurationForC, RewriteStatusForC, RewriteThresholdsForC, RewriteDescriptorsForC, ApplyControlForC, ApplyThresholdsForC, EmptyCollectorForC, PutChunkForC, EndPageForC, BuildControlForC, FindNameForC, SetNameForC, SetOverallNameForC};
 
+use build_page::built::Built;
+use names::finding;
 use shelf::limits;
 
 #[unsafe(no_mangle)]
 pub extern "C" fn ses_check(shelf: &[u8]) -> u8
     ensures { CheckForC shelf.now result }
 {
-    ses::check(shelf).number()
+    refusals::number(ses::check(shelf))
 }
 
 #[unsafe(no_mangle)]
@@ -20,8 +22,8 @@ pub extern "C" fn ses_write_configuration(shelf: &[u8], out: &mut [u8], written:
     ensures { WriteConfigurationForC shelf.now out.old result out.new written.new }
 {
     let answer = ses::write_configuration(shelf, out);
-    *written = answer.bytes();
-    answer.number()
+    *written = answer.unwrap_or(0);
+    refusals::number(answer)
 }
 
 #[unsafe(no_mangle)]
@@ -29,8 +31,8 @@ pub extern "C" fn ses_write_status(shelf: &[u8], out: &mut [u8], written: &mut u
     ensures { WriteStatusForC shelf.now out.old result out.new written.new }
 {
     let answer = ses::write_status(shelf, out);
-    *written = answer.bytes();
-    answer.number()
+    *written = answer.unwrap_or(0);
+    refusals::number(answer)
 }
 
 #[unsafe(no_mangle)]
@@ -38,8 +40,8 @@ pub extern "C" fn ses_write_thresholds(shelf: &[u8], out: &mut [u8], written: &m
     ensures { WriteThresholdsForC shelf.now out.old result out.new written.new }
 {
     let answer = ses::write_thresholds(shelf, out);
-    *written = answer.bytes();
-    answer.number()
+    *written = answer.unwrap_or(0);
+    refusals::number(answer)
 }
 
 #[unsafe(no_mangle)]
@@ -47,8 +49,8 @@ pub extern "C" fn ses_write_descriptors(shelf: &[u8], out: &mut [u8], written: &
     ensures { WriteDescriptorsForC shelf.now out.old result out.new written.new }
 {
     let answer = ses::write_descriptors(shelf, out);
-    *written = answer.bytes();
-    answer.number()
+    *written = answer.unwrap_or(0);
+    refusals::number(answer)
 }
 
 #[unsafe(no_mangle)]
@@ -60,7 +62,7 @@ pub extern "C" fn ses_read_configuration(
     ensures { ReadConfigurationForC page.now configuration.old result configuration.new offset.new }
 {
     *offset = 0;
-    ses::read_configuration(page, configuration).tell(offset)
+    refusals::tell(ses::read_configuration(page, configuration), offset)
 }
 
 #[unsafe(no_mangle)]
@@ -73,7 +75,7 @@ pub extern "C" fn ses_read_status(
     ensures { ReadStatusForC configuration.now page.now fields.old result fields.new offset.new }
 {
     *offset = 0;
-    ses::read_status(configuration, page, fields).tell(offset)
+    refusals::tell(ses::read_status(configuration, page, fields), offset)
 }
 
 #[unsafe(no_mangle)]
@@ -86,7 +88,7 @@ pub extern "C" fn ses_read_thresholds(
     ensures { ReadThresholdsForC configuration.now page.now fields.old result fields.new offset.new }
 {
     *offset = 0;
-    ses::read_thresholds(configuration, page, fields).tell(offset)
+    refusals::tell(ses::read_thresholds(configuration, page, fields), offset)
 }
 
 #[unsafe(no_mangle)]
@@ -99,7 +101,7 @@ pub extern "C" fn ses_read_descriptors(
     ensures { ReadDescriptorsForC configuration.now page.now fields.old result fields.new offset.new }
 {
     *offset = 0;
-    ses::read_descriptors(configuration, page, fields).tell(offset)
+    refusals::tell(ses::read_descriptors(configuration, page, fields), offset)
 }
 
 #[unsafe(no_mangle)]
@@ -111,8 +113,8 @@ pub extern "C" fn ses_rewrite_configuration(
     ensures { RewriteConfigurationForC configuration.now out.old result out.new written.new }
 {
     let answer = ses::rewrite_configuration(configuration, out);
-    *written = answer.bytes();
-    answer.number()
+    *written = answer.unwrap_or(0);
+    refusals::number(answer)
 }
 
 #[unsafe(no_mangle)]
@@ -125,8 +127,8 @@ pub extern "C" fn ses_rewrite_status(
     ensures { RewriteStatusForC configuration.now fields.now out.old result out.new written.new }
 {
     let answer = ses::rewrite_status(configuration, fields, out);
-    *written = answer.bytes();
-    answer.number()
+    *written = answer.unwrap_or(0);
+    refusals::number(answer)
 }
 
 #[unsafe(no_mangle)]
@@ -139,8 +141,8 @@ pub extern "C" fn ses_rewrite_thresholds(
     ensures { RewriteThresholdsForC configuration.now fields.now out.old result out.new written.new }
 {
     let answer = ses::rewrite_thresholds(configuration, fields, out);
-    *written = answer.bytes();
-    answer.number()
+    *written = answer.unwrap_or(0);
+    refusals::number(answer)
 }
 
 #[unsafe(no_mangle)]
@@ -153,8 +155,8 @@ pub extern "C" fn ses_rewrite_descriptors(
     ensures { RewriteDescriptorsForC configuration.now fields.now out.old result out.new written.new }
 {
     let answer = ses::rewrite_descriptors(configuration, fields, out);
-    *written = answer.bytes();
-    answer.number()
+    *written = answer.unwrap_or(0);
+    refusals::number(answer)
 }
 
 #[unsafe(no_mangle)]
@@ -162,7 +164,7 @@ pub extern "C" fn ses_apply_control(shelf: &mut [u8], page: &[u8], offset: &mut 
     ensures { ApplyControlForC shelf.old page.now result shelf.new offset.new }
 {
     *offset = 0;
-    ses::apply_control(shelf, page).tell(offset)
+    refusals::tell(ses::apply_control(shelf, page), offset)
 }
 
 #[unsafe(no_mangle)]
@@ -170,7 +172,7 @@ pub extern "C" fn ses_apply_thresholds(shelf: &mut [u8], page: &[u8], offset: &m
     ensures { ApplyThresholdsForC shelf.old page.now result shelf.new offset.new }
 {
     *offset = 0;
-    ses::apply_thresholds(shelf, page).tell(offset)
+    refusals::tell(ses::apply_thresholds(shelf, page), offset)
 }
 
 #[unsafe(no_mangle)]
@@ -197,7 +199,7 @@ pub extern "C" fn ses_end_page(
     ensures { EndPageForC collector.old shelf.old code result collector.new shelf.new offset.new }
 {
     *offset = 0;
-    ses::end_page(collector, shelf, code).tell(offset)
+    refusals::tell(ses::end_page(collector, shelf, code), offset)
 }
 
 #[unsafe(no_mangle)]
@@ -211,9 +213,10 @@ pub extern "C" fn ses_build_control(
     ensures { BuildControlForC shelf.now wanted.now out.old result out.new written.new selects.new }
 {
     let built = ses::build_control(shelf, wanted, out);
-    *written = built.bytes();
-    *selects = built.selects();
-    built.number()
+    let told = built.unwrap_or(Built::NOTHING);
+    *written = told.bytes;
+    *selects = told.selects;
+    refusals::number(built)
 }
 
 #[unsafe(no_mangle)]
@@ -221,20 +224,20 @@ pub extern "C" fn ses_find_name(shelf: &[u8], text: &[u8], element: &mut u32) ->
     ensures { FindNameForC shelf.now text.now result element.new }
 {
     let found = ses::find_name(shelf, text);
-    *element = found.element();
-    found.number()
+    *element = finding::element(found);
+    refusals::number(found)
 }
 
 #[unsafe(no_mangle)]
 pub extern "C" fn ses_set_name(shelf: &mut [u8], element: u32, text: &[u8]) -> u8
     ensures { SetNameForC shelf.old element text.now result shelf.new }
 {
-    ses::set_name(shelf, element, text).number()
+    refusals::number(ses::set_name(shelf, element, text))
 }
 
 #[unsafe(no_mangle)]
 pub extern "C" fn ses_set_overall_name(shelf: &mut [u8], number: u32, text: &[u8]) -> u8
     ensures { SetOverallNameForC shelf.old number text.now result shelf.new }
 {
-    ses::set_overall_name(shelf, number, text).number()
+    refusals::number(ses::set_overall_name(shelf, number, text))
 }

@@ -9,15 +9,10 @@ use borrow.Author.Tests.{lt-ltb, le-ltb, ltb-true, ltb-false}
 use lib.Dec.{ltb}
 use Rattle.bits.specs.Choice.{all_below}
 use Rattle.bits.proofs.Logic.{by_case, below_all, below_next, first_at, first_none, first_bound, first_fails}
-use Rattle.element.specs.declared.types.Kind.{Kind}
-use Rattle.element.specs.Types.{kind_of}
 use Rattle.shelf.specs.declared.types.Run.{Run}
 use Rattle.shelf.specs.Limits.{most_types}
-use Rattle.shelf.specs.Types.{type_code, type_count, before, within, ended_by, type_of, kind_at, run_with, run_of, run_at, carried}
+use Rattle.shelf.specs.Types.{type_count, before, within, ended_by, type_of, kind_at, run_with, run_of, run_at, carried}
 use Rattle.shelf.proofs.ElementsBefore.{before_none, before_next}
-
-pub run_made : (s : List ℕ) {t a e b : ℕ} {k : Kind} → b ≡ type_code s t → k ≡ kind_of b → record { kind = k; number = t; before = a; end = e } ≡ run_with s t a e
-run_made s q h = rw (h, q)
 
 module _ (s : List ℕ) (j : ℕ) where
   -- a search that stops at type t, or at the last

@@ -9,3 +9,4 @@ pub mod limits;
 pub mod settings_list;
 pub mod texts;
 pub mod types;
+pub mod walk;

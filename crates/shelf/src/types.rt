@@ -44,10 +44,8 @@ pub fn elements_before(shelf: &[u8], n: u16) -> u16
     ensures { result ≡ before shelf.now n }
 {
     let mut sum: u16 = 0;
-    let mut t: u16 = 0;
-    while t < n {
+    for t in 0..n {
         sum += elements_of(shelf, t) as u16;
-        t += 1;
     }
     sum
 }
@@ -92,18 +90,16 @@ fn run_from(shelf: &[u8], t: u16, start: u16, j: u16) -> Run
     requires t_value { all_below (ended_by shelf.now j) t ≡ true }
     ensures { result ≡ run_at shelf.now j }
 {
-    let mut number = t;
     let mut before = start;
-    while number < limits::MOST_TYPES {
+    for number in t..limits::MOST_TYPES {
         let end = before + elements_of(shelf, number) as u16;
         if j < end {
             return run_with(shelf, number, before, end);
         }
         before = end;
-        number += 1;
     }
-    let end = before + elements_of(shelf, number) as u16;
-    run_with(shelf, number, before, end)
+    let end = before + elements_of(shelf, limits::MOST_TYPES) as u16;
+    run_with(shelf, limits::MOST_TYPES, before, end)
 }
 
 // The run of element j, without a walk.

@@ -1,4 +1,5 @@
 -- Storing one element's settings or thresholds: they are read back, and every other byte stays. Assumes nothing.
+use Rattle.std.specs.Prelude.{Some}
 use mathlib.Core.Path.{◌≡◌}
 use mathlib.Core.Bool.{true, ◌&&◌}
 use mathlib.Core.List.{List, [], ◌∷◌}
@@ -13,7 +14,6 @@ use Rattle.shelf.specs.Limits.{most_types, element_place, block_length}
 use Rattle.shelf.specs.Types.{types_of, elements_of}
 use Rattle.shelf.specs.Elements.{settings_at, thresholds_at, settings_put, thresholds_put}
 use Rattle.shelf_formed.specs.declared.Sizes.{Sizes}
-use Rattle.shelf_formed.specs.declared.Opened.TheVariants.{Shelf}
 use Rattle.shelf_formed.specs.Formed.{front_formed, HasFront, elements_formed, well_formed, opened}
 use Rattle.shelf_formed.proofs.Opening.{formed_sizes}
 use Rattle.shelf_formed.proofs.FormedShelf.{few_types}
@@ -31,7 +31,7 @@ pub shelf_there : (s : List ℕ) → well_formed s ≡ true → HasFront s
 shelf_there s h = (front_formed_lem s h, omega (arith, length-formed s h))
 
 -- what is opened has its types and all its elements
-pub opened_there : (s : List ℕ) {z : Sizes} → opened s ≡ Shelf z → (z.types ≤ most_types) × (element_place z.elements ≤ length s)
+pub opened_there : (s : List ℕ) {z : Sizes} → opened s ≡ Some z → (z.types ≤ most_types) × (element_place z.elements ≤ length s)
 opened_there s e =
     let q = formed_sizes s e in
     (omega (arith, q.1, few_types s (front_formed_lem s q.0)), omega (arith, q.2, length-formed s q.0))

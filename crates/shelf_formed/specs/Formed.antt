@@ -1,12 +1,10 @@
 -- Well-formed shelves. Assumes nothing.
-use Rattle.std.specs.Prelude.{◌≡◌, Bool, true, ◌&&◌, List, ℕ, ◌+◌, eqb, leb, ltb, length, get_or}
+use Rattle.std.specs.Prelude.{◌≡◌, Bool, true, ◌&&◌, List, ℕ, ◌+◌, eqb, leb, ltb, length, get_or, Some, None, Option}
 use Rattle.bits.specs.Choice.{pick, all_below}
 use Rattle.bits.specs.Bits.{printable}
 use Rattle.element.specs.Types.{served}
 use Rattle.element.specs.Settings.{fields_formed}
 use Rattle.shelf_formed.specs.declared.Sizes.{Sizes}
-use Rattle.shelf_formed.specs.declared.Opened.{Opened}
-use Rattle.shelf_formed.specs.declared.Opened.TheVariants.{Shelf, NotWellFormed}
 use Rattle.shelf.specs.Limits.{most_types, most_elements, most_in_type, most_text, type_size, type_place, text_place, element_place, block_length, HasTypes}
 use Rattle.shelf.specs.Types.{types_of, type_code, type_count, text_length, elements_of, kind_at}
 use Rattle.shelf.specs.Elements.{settings_at, thresholds_at, reading_at, nominal_at, spare_at}
@@ -77,30 +75,30 @@ unfoldable pub configuration_formed : List ℕ → Bool
 configuration_formed s = front_formed s && eqb (length s) (element_place 0)
 
 -- how many types and elements there are, if the test passed
-abbrev pub opened_if : Bool → Sizes → Opened
-opened_if t z = pick t (Shelf z) NotWellFormed
+abbrev pub opened_if : Bool → Sizes → Option Sizes
+opened_if t z = pick t (Some z) None
 
-abbrev pub sizes_if : Bool → List ℕ → Opened
+abbrev pub sizes_if : Bool → List ℕ → Option Sizes
 sizes_if t s = opened_if t (record { types = types_of s; elements = elements_of s })
 
-unfoldable pub fronted : List ℕ → Opened
+unfoldable pub fronted : List ℕ → Option Sizes
 fronted s = sizes_if (front_formed s) s
 
 -- a block is opened in stages: the front, if it has the bytes of one; just the bytes that a shelf of these sizes needs; each element
-abbrev pub front_opened : List ℕ → Opened
-front_opened s = pick (leb (element_place 0) (length s)) (fronted s) NotWellFormed
+abbrev pub front_opened : List ℕ → Option Sizes
+front_opened s = pick (leb (element_place 0) (length s)) (fronted s) None
 
 abbrev pub as_long : List ℕ → Sizes → Bool
 as_long s z = eqb (length s) (block_length z.types z.elements)
 
-abbrev pub block_opened : List ℕ → Sizes → Opened
+abbrev pub block_opened : List ℕ → Sizes → Option Sizes
 block_opened s z = opened_if (as_long s z) z
 
-abbrev pub elements_opened : List ℕ → Sizes → Opened
+abbrev pub elements_opened : List ℕ → Sizes → Option Sizes
 elements_opened s z = opened_if (as_long s z && elements_formed s z.elements) z
 
-unfoldable pub opened : List ℕ → Opened
+unfoldable pub opened : List ℕ → Option Sizes
 opened s = sizes_if (well_formed s) s
 
-unfoldable pub configuration_opened : List ℕ → Opened
+unfoldable pub configuration_opened : List ℕ → Option Sizes
 configuration_opened s = sizes_if (configuration_formed s) s

@@ -4,11 +4,11 @@
 ghost use Rattle.std.specs.Prelude.{◌≡◌, true, ◌≤◌, length};
 ghost use Rattle.bits.specs.Choice.{all_below};
 ghost use Rattle.shelf.specs.Limits.{most_text, element_place, HasTypes, HasText, HasElement};
-ghost use Rattle.shelf.specs.Types.{text_length, kind_at};
+ghost use Rattle.shelf.specs.Types.{text_length, run_at, kind_at};
 ghost use Rattle.shelf_formed.specs.Formed.{head_formed, text_byte_formed, text_formed, type_formed, type_empty, slot_formed, types_formed, spare_clear, element_formed, elements_formed, fronted, front_opened, block_opened, elements_opened, opened, configuration_opened};
 
 use element::types::Kind;
-use shelf::{elements, limits, types};
+use shelf::{elements, limits, types, walk};
 
 // How many types and elements a well-formed shelf has.
 #[derive(Clone, Copy)]
@@ -17,81 +17,69 @@ pub struct Sizes {
     pub elements: u16,
 }
 
-#[derive(Clone, Copy)]
-pub enum Opened {
-    Shelf(Sizes),
-    NotWellFormed,
-}
-
-pub fn open_shelf(shelf: &[u8]) -> Opened
+pub fn open_shelf(shelf: &[u8]) -> Option<Sizes>
     ensures { result ≡ opened shelf.now }
 {
-    let front = open_front(shelf);
-    let Opened::Shelf(sizes) = front else {
-        return Opened::NotWellFormed;
-    };
+    let sizes = open_front(shelf)?;
     open_elements(shelf, sizes)
 }
 
 // A block that has the bytes of a front.
-fn open_front(shelf: &[u8]) -> Opened
+fn open_front(shelf: &[u8]) -> Option<Sizes>
     ensures { result ≡ front_opened shelf.now }
 {
     if limits::CONFIGURATION <= shelf.len() {
         front(shelf)
     } else {
-        Opened::NotWellFormed
+        None
     }
 }
 
 // The elements behind a front of these sizes.
-fn open_elements(shelf: &[u8], sizes: Sizes) -> Opened
+fn open_elements(shelf: &[u8], sizes: Sizes) -> Option<Sizes>
     ensures { result ≡ elements_opened shelf.now sizes }
 {
-    let block = open_block(shelf, sizes);
-    let Opened::Shelf(_) = block else {
-        return Opened::NotWellFormed;
-    };
+    open_block(shelf, sizes)?;
     if elements_formed(shelf, sizes.elements) {
-        block
+        Some(sizes)
     } else {
-        Opened::NotWellFormed
+        None
     }
 }
 
 // The block has just the bytes that they and their names need.
-fn open_block(shelf: &[u8], sizes: Sizes) -> Opened
+fn open_block(shelf: &[u8], sizes: Sizes) -> Option<Sizes>
     ensures { result ≡ block_opened shelf.now sizes }
 {
     if shelf.len() == limits::block_length(sizes.types, sizes.elements) {
-        Opened::Shelf(sizes)
+        Some(sizes)
     } else {
-        Opened::NotWellFormed
+        None
     }
 }
 
 // A configuration is the front of a shelf block, without its elements.
-pub fn open_configuration(configuration: &[u8]) -> Opened
+pub fn open_configuration(configuration: &[u8]) -> Option<Sizes>
     ensures { result ≡ configuration_opened configuration.now }
 {
     if configuration.len() == limits::CONFIGURATION {
         front(configuration)
     } else {
-        Opened::NotWellFormed
+        None
     }
 }
 
 // What a configuration tells is well formed, whatever stands behind it.
-fn front(shelf: &[u8]) -> Opened
+fn front(shelf: &[u8]) -> Option<Sizes>
     requires { HasTypes shelf.now }
     ensures { result ≡ fronted shelf.now }
 {
     let types = types::count(shelf);
     let elements = types::all_elements(shelf);
     if head_formed(shelf) & types_formed(shelf, types) & (elements <= limits::MOST_ELEMENTS) {
-        Opened::Shelf(Sizes { types, elements })
+        Some(Sizes { types, elements })
     } else {
-        Opened::NotWellFormed
+        None
     }
 }
 
@@ -111,13 +99,11 @@ fn text_printable(shelf: &[u8], t: u16, n: u16) -> bool
     requires n_value { n ≡ text_length shelf.now t }
     ensures { result ≡ all_below (text_byte_formed shelf.now t) n }
 {
-    let mut i: u16 = 0;
-    while i < n {
+    for i in 0..n {
         let b = bits::byte_at(shelf, limits::text_place(t) + i as u32);
         if !bits::is_printable(b) {
             return false;
         }
-        i += 1;
     }
     true
 }
@@ -130,12 +116,10 @@ fn text_ended(shelf: &[u8], t: u16, n: u16) -> bool
     requires n_value_2 { all_below (text_byte_formed shelf.now t) n ≡ true }
     ensures { result ≡ text_formed shelf.now t }
 {
-    let mut i = n;
-    while i < limits::MOST_TEXT {
+    for i in n..limits::MOST_TEXT {
         if bits::byte_at(shelf, limits::text_place(t) + i as u32) != 0 {
             return false;
         }
-        i += 1;
     }
     true
 }
@@ -170,12 +154,10 @@ fn type_empty(shelf: &[u8], t: u16) -> bool
     requires { HasText shelf.now t }
     ensures { result ≡ type_empty shelf.now t }
 {
-    let mut i: u16 = 0;
-    while i < limits::TYPE_SIZE {
+    for i in 0..limits::TYPE_SIZE {
         if bits::byte_at(shelf, limits::type_place(t) + i as u32) != 0 {
             return false;
         }
-        i += 1;
     }
     true
 }
@@ -195,12 +177,10 @@ fn types_formed(shelf: &[u8], n: u16) -> bool
     requires { HasTypes shelf.now }
     ensures { result ≡ types_formed shelf.now n }
 {
-    let mut t: u16 = 0;
-    while t < limits::MOST_TYPES {
+    for t in 0..limits::MOST_TYPES {
         if !slot_formed(shelf, n, t) {
             return false;
         }
-        t += 1;
     }
     true
 }
@@ -232,16 +212,13 @@ fn elements_formed(shelf: &[u8], n: u16) -> bool
     requires { element_place n ≤ length shelf.now }
     ensures { result ≡ elements_formed shelf.now n }
 {
-    let mut run = types::first_run(shelf);
-    let mut j: u16 = 0;
-    while j < n {
-        let here = types::run_to(shelf, run, j);
-        run = here;
-        let kind = here.kind;
-        if !element_formed(shelf, kind, j) {
-            return false;
-        }
-        j += 1;
-    }
-    true
+    walk::all_hold(
+        shelf,
+        n,
+        |run, j|
+            requires has_element { HasElement shelf.now j }
+            requires run_value { run ≡ run_at shelf.now j }
+            ensures { result ≡ element_formed shelf.entry.now j }
+        { element_formed(shelf, run.kind, j) },
+    )
 }

@@ -28,13 +28,9 @@ impl PageBits {
             critical: false,
         };
         let mut run = types::first_run(shelf);
-        let mut j: u16 = 0;
-        while j < n {
-            let here = types::run_to(shelf, run, j);
-            run = here;
-            let kind = here.kind;
-            seen = seen.with(code_at(shelf, kind, j));
-            j += 1;
+        for j in 0..n {
+            run = types::run_to(shelf, run, j);
+            seen = seen.with(code_at(shelf, run.kind, j));
         }
         seen
     }
@@ -112,10 +108,8 @@ pub fn worst(shelf: &[u8], kind: Kind, first: u16, end: u16) -> u8
     ensures { result ≡ worst shelf.now kind first end }
 {
     let mut code: u8 = 0;
-    let mut j = first;
-    while j < end {
+    for j in first..end {
         code = worse(code, code_at(shelf, kind, j));
-        j += 1;
     }
     code
 }

@@ -1,7 +1,9 @@
 // The control page for a wanted list.
+use crate::pages;
 use build_page::built::Built;
 use shelf::limits;
 use std::io;
+use tool_print::Counted;
 
 pub fn tell(rt: &impl Print, shelf: &[u8], wanted: &[u8]) -> io::Result<()> {
     let mut page = [0u8; limits::LONGEST_SLOT_PAGE];
@@ -12,17 +14,18 @@ pub fn tell(rt: &impl Print, shelf: &[u8], wanted: &[u8]) -> io::Result<()> {
 pub fn tell_into(rt: &impl Print, shelf: &[u8], wanted: &[u8], page: &mut [u8]) -> io::Result<()> {
     let built = ses::build_control(shelf, wanted, page);
     match built {
-        Built::Page { bytes, selects } => {
+        Ok(Built { bytes, selects }) => {
             say_head(rt, bytes, selects)?;
-            tool_print::hex_lines(rt, page, bytes)
+            tool_print::hex_lines(rt, pages::first(page, bytes))
         }
-        Built::Refused(r) => tool_print::refusal::tell(rt, r),
+        Err(r) => tool_print::refusal::tell(rt, r),
     }
 }
 
 fn say_head(rt: &impl Print, bytes: u32, selects: u32) -> io::Result<()> {
-    tool_print::text(rt, b"control page")?;
-    tool_print::count(rt, bytes as u64, b" byte")?;
-    tool_print::count(rt, selects as u64, b" SELECT")?;
-    tool_print::text(rt, b"\n")
+    println!(rt;
+        "control page, {}, {}",
+        Counted(bytes as usize, "byte"),
+        Counted(selects as usize, "SELECT"),
+    )
 }

@@ -9,9 +9,9 @@ use tool_shelf::{builtin, changes, settings};
 pub fn show(rt: &impl Print) -> io::Result<()> {
     let mut shelf = builtin::shelf();
     let before = shelf;
-    pages::tell_headed(rt, b"status page before", Page::Status, &shelf)?;
+    pages::tell(rt, Some("status page before"), Page::Status, &shelf)?;
     bring(rt, &mut shelf)?;
-    pages::tell_headed(rt, b"status page after", Page::Status, &shelf)?;
+    pages::tell(rt, Some("status page after"), Page::Status, &shelf)?;
     tool_show::first_type(rt, &shelf)?;
     changes::tell(rt, &before, &shelf)
 }
@@ -19,8 +19,8 @@ pub fn show(rt: &impl Print) -> io::Result<()> {
 fn bring(rt: &impl Print, shelf: &mut [u8]) -> io::Result<()> {
     let wanted = wanted_list(shelf);
     let n = builtin::WANTED_LENGTH as u32;
-    pages::say_head(rt, b"wanted settings: element 0 to full speed", n)?;
-    tool_print::hex_lines(rt, &wanted, n)?;
+    pages::say_head(rt, "wanted settings: element 0 to full speed", n)?;
+    tool_print::hex_lines(rt, &wanted)?;
     let mut page = [0u8; builtin::CONTROL_LENGTH];
     building::tell_into(rt, shelf, &wanted, &mut page)?;
     let answer = ses::apply_control(shelf, &page);

@@ -14,17 +14,16 @@ mod pieces;
 
 use std::io;
 use std::rt::{Env, Files};
-use tool_input::arguments::{Act, Command, Given};
+use tool_input::arguments::{Act, Command};
 use tool_input::{arguments, files};
 use tool_shelf::{builtin, settings};
 
 fn main(rt: HostRuntime) -> io::Result<()> {
     let err = rt.stderr();
-    let first = arguments::first_given(&rt);
-    match first {
-        Given::Nothing => show_builtin(&rt),
-        Given::Command(command) => run(&rt, &err, command),
-        Given::Unknown => arguments::say_wrong(&err, b"unknown command\n"),
+    match arguments::first_given(&rt) {
+        Ok(None) => show_builtin(&rt),
+        Ok(Some(command)) => run(&rt, &err, command),
+        Err(_) => arguments::say_wrong(&err, "unknown command"),
     }
 }
 
@@ -75,12 +74,26 @@ fn on_named_file<R: Env + Files + Print>(
     place: u8,
 ) -> io::Result<()> {
     let mut block = [0u8; files::BLOCK_ROOM];
-    let loaded = files::load(rt, err, place, b"FILE", &mut block)?;
-    if loaded.is_done {
-        let n = loaded.bytes;
-        tell(rt, err, command, &mut block[..n])?;
+    with_file(rt, err, place, "FILE", &mut block, |shelf| {
+        tell(rt, err, command, shelf)
+    })
+}
+
+// Acts on what the file has that an argument names, if it could be read.
+fn with_file<R: Env + Files, F: FnOnce(&mut [u8]) -> io::Result<()>>(
+    rt: &R,
+    err: &impl Print,
+    argument: u8,
+    name: &str,
+    buffer: &mut [u8],
+    act: F,
+) -> io::Result<()>
+    requires { F.IsAlwaysCallable act }
+{
+    match files::load(rt, err, argument, name, buffer)? {
+        Some(n) => act(&mut buffer[..n]),
+        None => Ok(()),
     }
-    Ok(())
 }
 
 fn tell<R: Env + Files + Print>(
@@ -95,7 +108,7 @@ fn tell<R: Env + Files + Print>(
             tell_checked(rt, shelf)?;
             Ok(())
         }
-        Command::Page(page) => pages::tell(rt, page, shelf),
+        Command::Page(page) => pages::tell(rt, None, page, shelf),
         Command::Settings => tell_settings(rt, shelf),
         Command::Build => build(rt, err, shelf),
         Command::Apply(act) => apply(rt, err, act, shelf),
@@ -116,13 +129,13 @@ fn tell_contents(rt: &impl Print, shelf: &[u8]) -> io::Result<()> {
 // Answers whether the block is a shelf, after saying so.
 fn tell_checked(rt: &impl Print, shelf: &[u8]) -> io::Result<bool> {
     let answer = ses::check(shelf);
-    answer::tell(rt, answer, b"shelf: well formed\n")
+    answer::tell(rt, answer, "shelf: well formed\n")
 }
 
 // In the form of a wanted list, or the refusal.
 fn tell_settings(rt: &impl Print, shelf: &[u8]) -> io::Result<()> {
     let answer = ses::check(shelf);
-    if answer::tell(rt, answer, b"")? {
+    if answer::tell(rt, answer, "")? {
         settings::show(rt, shelf)?;
     }
     Ok(())
@@ -130,12 +143,14 @@ fn tell_settings(rt: &impl Print, shelf: &[u8]) -> io::Result<()> {
 
 fn build<R: Env + Files + Print>(rt: &R, err: &impl Print, shelf: &[u8]) -> io::Result<()> {
     let mut wanted = [0u8; files::WANTED_ROOM];
-    let loaded = files::load(rt, err, arguments::INPUT_PLACE, b"WANTED", &mut wanted)?;
-    if loaded.is_done {
-        let n = loaded.bytes;
-        building::tell(rt, shelf, &wanted[..n])?;
-    }
-    Ok(())
+    with_file(
+        rt,
+        err,
+        arguments::INPUT_PLACE,
+        "WANTED",
+        &mut wanted,
+        |wanted| { building::tell(rt, shelf, wanted) },
+    )
 }
 
 fn apply<R: Env + Files + Print>(
@@ -145,21 +160,15 @@ fn apply<R: Env + Files + Print>(
     shelf: &mut [u8],
 ) -> io::Result<()> {
     let mut page = [0u8; files::PAGE_ROOM];
-    let loaded = files::load(rt, err, arguments::INPUT_PLACE, b"PAGE", &mut page)?;
-    if loaded.is_done {
-        let n = loaded.bytes;
-        let answer = applying::apply(act, shelf, &page[..n]);
-        applying::tell(rt, shelf, answer)?;
-    }
-    Ok(())
+    with_file(rt, err, arguments::INPUT_PLACE, "PAGE", &mut page, |page| {
+        let answer = applying::apply(act, shelf, page);
+        applying::tell(rt, shelf, answer)
+    })
 }
 
 fn read<R: Env + Files + Print>(rt: &R, err: &impl Print, shelf: &[u8]) -> io::Result<()> {
     let mut page = [0u8; files::PAGE_ROOM];
-    let loaded = files::load(rt, err, arguments::INPUT_PLACE, b"PAGE", &mut page)?;
-    if loaded.is_done {
-        let n = loaded.bytes;
-        naming::tell_page(rt, shelf, &page[..n])?;
-    }
-    Ok(())
+    with_file(rt, err, arguments::INPUT_PLACE, "PAGE", &mut page, |page| {
+        naming::tell_page(rt, shelf, page)
+    })
 }

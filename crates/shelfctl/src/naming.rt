@@ -1,17 +1,16 @@
 // The names of a shelf: told by a page, found, and set.
 use crate::answer;
-use names::finding::Found;
-use refusals::{Answer, PageAnswer, PageRefusal};
+use refusals::{PageRefusal, Refusal};
 use shelf::limits;
 use std::io;
 use std::rt::Env;
 use tool_input::arguments;
-use tool_input::arguments::{Named, Told};
+use tool_input::arguments::Named;
 
 // Each name that the page tells, or why it is refused for this shelf.
 pub fn tell_page(rt: &impl Print, shelf: &[u8], page: &[u8]) -> io::Result<()> {
     let checked = ses::check(shelf);
-    if answer::tell(rt, checked, b"")? {
+    if answer::tell(rt, checked, "")? {
         tell_read(rt, shelf, page)?;
     }
     Ok(())
@@ -21,33 +20,23 @@ fn tell_read(rt: &impl Print, shelf: &[u8], page: &[u8]) -> io::Result<()> {
     let mut record = [0u8; descriptor_record::reading::LENGTH];
     let read = ses::read_descriptors(configuration_of(shelf), page, &mut record);
     match read {
-        PageAnswer::Accepted => {
-            tool_print::text(rt, b"accepted\n")?;
+        Ok(()) => {
+            rt.print("accepted\n")?;
             tool_show::named::tell_record(rt, shelf, &record)
         }
-        PageAnswer::Refused(told) => tell_refused(rt, shelf, page, told),
+        Err(told) => tell_refused(rt, shelf, page, told),
     }
 }
 
 // A shelf's first bytes; none of a block that has fewer.
 fn configuration_of(shelf: &[u8]) -> &[u8] {
-    let n = limits::CONFIGURATION;
-    if n <= shelf.len() {
-        &shelf[0..n]
-    } else {
-        &shelf[..0]
-    }
+    shelf.get(..limits::CONFIGURATION).unwrap_or(&[])
 }
 
-// Why, and what stands at the byte that offends. Offset 0 is that of no such byte.
 fn tell_refused(rt: &impl Print, shelf: &[u8], page: &[u8], told: PageRefusal) -> io::Result<()> {
-    let refusal = told.refusal;
-    tool_print::refusal::tell(rt, refusal)?;
-    let at = told.offset;
-    if at != 0 {
-        tool_show::place::tell_on_names(rt, shelf, page, at)?;
-    }
-    Ok(())
+    answer::tell_refused(rt, told, |at| {
+        tool_show::place::tell_on_names(rt, shelf, page, at)
+    })
 }
 
 // The first element that has the name, with its type.
@@ -56,9 +45,9 @@ pub fn tell_found<R: Env + Print>(rt: &R, shelf: &[u8]) -> io::Result<()> {
     let n = arguments::name(rt, arguments::INPUT_PLACE, &mut text);
     let found = ses::find_name(shelf, &text[..n]);
     match found {
-        Found::Element(j) => tool_show::named::tell_element(rt, shelf, j),
-        Found::Nothing => tool_print::text(rt, b"no element has this name\n"),
-        Found::Refused(r) => tool_print::refusal::tell(rt, r),
+        Ok(Some(j)) => tool_show::named::tell_element(rt, shelf, j),
+        Ok(None) => rt.print("no element has this name\n"),
+        Err(r) => tool_print::refusal::tell(rt, r),
     }
 }
 
@@ -69,20 +58,19 @@ pub fn tell_set<R: Env + Print>(
     named: Named,
     shelf: &mut [u8],
 ) -> io::Result<()> {
-    let given = arguments::number(rt, arguments::INPUT_PLACE);
-    let Told::Number(i) = given else {
+    let Some(i) = arguments::number(rt, arguments::INPUT_PLACE) else {
         return arguments::say_no_number(err, named);
     };
     let mut text = [0u8; arguments::NAME_ROOM];
     let n = arguments::name(rt, arguments::NAME_PLACE, &mut text);
     let set = set(named, shelf, i, &text[..n]);
-    if answer::tell(rt, set, b"accepted\n")? {
+    if answer::tell(rt, set, "accepted\n")? {
         tool_show::contents(rt, shelf)?;
     }
     Ok(())
 }
 
-fn set(named: Named, shelf: &mut [u8], i: u32, text: &[u8]) -> Answer {
+fn set(named: Named, shelf: &mut [u8], i: u32, text: &[u8]) -> Result<(), Refusal> {
     match named {
         Named::Element => ses::set_name(shelf, i, text),
         Named::Overall => ses::set_overall_name(shelf, i, text),

@@ -1,39 +1,41 @@
 // The pages of a shelf, in hexadecimal.
-use refusals::Written;
+use refusals::Refusal;
 use shelf::limits;
 use std::io;
 use tool_input::arguments::Page;
+use tool_print::Counted;
 
 // The longest of all pages is one of names.
 const LONGEST: usize = limits::LONGEST_DESCRIPTOR_PAGE;
 
-pub fn tell(rt: &impl Print, page: Page, shelf: &[u8]) -> io::Result<()> {
-    let mut out = [0u8; LONGEST];
-    let written = write(page, shelf, &mut out);
-    tell_written(rt, written, &out)
-}
-
 pub fn tell_all(rt: &impl Print, shelf: &[u8]) -> io::Result<()> {
-    tell_headed(rt, b"configuration page", Page::Configuration, shelf)?;
-    tell_headed(rt, b"status page", Page::Status, shelf)?;
-    tell_headed(rt, b"threshold page", Page::Thresholds, shelf)?;
-    tell_headed(rt, b"descriptor page", Page::Descriptors, shelf)
+    let pages = [
+        ("configuration page", Page::Configuration),
+        ("status page", Page::Status),
+        ("threshold page", Page::Thresholds),
+        ("descriptor page", Page::Descriptors),
+    ];
+    for (name, page) in pages {
+        tell(rt, Some(name), page, shelf)?;
+    }
+    Ok(())
 }
 
-pub fn tell_headed(rt: &impl Print, name: &[u8], page: Page, shelf: &[u8]) -> io::Result<()> {
+// With a head, if it has a name.
+pub fn tell(rt: &impl Print, name: Option<&str>, page: Page, shelf: &[u8]) -> io::Result<()> {
     let mut out = [0u8; LONGEST];
     let written = write(page, shelf, &mut out);
-    say_head(rt, name, written.bytes())?;
+    if let Some(name) = name {
+        say_head(rt, name, written.unwrap_or(0))?;
+    }
     tell_written(rt, written, &out)
 }
 
-pub fn say_head(rt: &impl Print, name: &[u8], bytes: u32) -> io::Result<()> {
-    tool_print::text(rt, name)?;
-    tool_print::count(rt, bytes as u64, b" byte")?;
-    tool_print::text(rt, b"\n")
+pub fn say_head(rt: &impl Print, name: &str, bytes: u32) -> io::Result<()> {
+    println!(rt; "{name}, {}", Counted(bytes as usize, "byte"))
 }
 
-fn write(page: Page, shelf: &[u8], out: &mut [u8]) -> Written {
+fn write(page: Page, shelf: &[u8], out: &mut [u8]) -> Result<u32, Refusal> {
     match page {
         Page::Configuration => ses::write_configuration(shelf, out),
         Page::Status => ses::write_status(shelf, out),
@@ -42,9 +44,14 @@ fn write(page: Page, shelf: &[u8], out: &mut [u8]) -> Written {
     }
 }
 
-fn tell_written(rt: &impl Print, written: Written, out: &[u8]) -> io::Result<()> {
+fn tell_written(rt: &impl Print, written: Result<u32, Refusal>, out: &[u8]) -> io::Result<()> {
     match written {
-        Written::Bytes(n) => tool_print::hex_lines(rt, out, n),
-        Written::Refused(r) => tool_print::refusal::tell(rt, r),
+        Ok(n) => tool_print::hex_lines(rt, first(out, n)),
+        Err(r) => tool_print::refusal::tell(rt, r),
     }
+}
+
+// The page at the start of a buffer, of so many bytes; none if the buffer were shorter.
+pub fn first(out: &[u8], bytes: u32) -> &[u8] {
+    out.get(..bytes as usize).unwrap_or(&[])
 }

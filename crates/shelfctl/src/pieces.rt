@@ -1,26 +1,24 @@
 // A page that acts and comes in pieces, as a bus hands it over.
-ghost use Rattle.std.specs.Prelude.{◌<◌, ◌≤◌};
+ghost use Rattle.std.specs.Prelude.{◌≤◌};
 
-use crate::applying;
-use refusals::PageAnswer;
+use crate::{applying, with_file};
+use refusals::PageRefusal;
 use std::io;
 use std::rt::{Env, Files};
 use tool_input::{arguments, files};
 
-// The answer to the page, as to a whole one; or what is wrong with SIZE or CODE. Where no number is told, one stands that is not allowed.
+// The answer to the page, as to a whole one; or what is wrong with SIZE or CODE.
 pub fn tell<R: Env + Files + Print>(rt: &R, err: &impl Print, shelf: &mut [u8]) -> io::Result<()> {
-    let size = arguments::number_or(rt, arguments::SIZE_PLACE, 0);
-    let code = arguments::number_or(rt, arguments::CODE_PLACE, 256);
-    if size < 1 {
-        arguments::say_wrong(err, b"SIZE is not a number from 1 on, of up to 20 digits\n")
-    } else if 255 < code {
-        arguments::say_wrong(
+    let Some(size @ 1..) = arguments::number(rt, arguments::SIZE_PLACE) else {
+        return arguments::say_wrong(err, "SIZE is not a number from 1 on, of up to 20 digits");
+    };
+    let Some(code @ 0..=255) = arguments::number(rt, arguments::CODE_PLACE) else {
+        return arguments::say_wrong(
             err,
-            b"CODE is not a number from 0 to 255, of up to 20 digits\n",
-        )
-    } else {
-        tell_answer(rt, err, shelf, size, code as u8)
-    }
+            "CODE is not a number from 0 to 255, of up to 20 digits",
+        );
+    };
+    tell_answer(rt, err, shelf, size, code as u8)
 }
 
 fn tell_answer<R: Env + Files + Print>(
@@ -33,17 +31,14 @@ fn tell_answer<R: Env + Files + Print>(
     requires { 1 ≤ size }
 {
     let mut page = [0u8; files::PAGE_ROOM];
-    let loaded = files::load(rt, err, arguments::PAGE_PLACE, b"PAGE", &mut page)?;
-    if loaded.is_done {
-        let n = loaded.bytes;
-        let answer = apply(shelf, &page[..n], size, code);
-        applying::tell(rt, shelf, answer)?;
-    }
-    Ok(())
+    with_file(rt, err, arguments::PAGE_PLACE, "PAGE", &mut page, |page| {
+        let answer = apply(shelf, page, size, code);
+        applying::tell(rt, shelf, answer)
+    })
 }
 
 // The page is collected, and acts at its end.
-fn apply(shelf: &mut [u8], page: &[u8], size: u32, code: u8) -> PageAnswer
+fn apply(shelf: &mut [u8], page: &[u8], size: u32, code: u8) -> Result<(), PageRefusal>
     requires { 1 ≤ size }
 {
     let mut collector = [0u8; collector::LENGTH];
@@ -55,24 +50,7 @@ fn apply(shelf: &mut [u8], page: &[u8], size: u32, code: u8) -> PageAnswer
 fn put(collector: &mut [u8; collector::LENGTH], page: &[u8], size: u32)
     requires { 1 ≤ size }
 {
-    let mut at = 0;
-    while at < page.len() {
-        let end = end_of(at, size, page.len());
-        ses::put_chunk(collector, &page[at..end]);
-        at = end;
-    }
-}
-
-// Where the piece ends that starts here, of n bytes in all. The last may be shorter.
-fn end_of(at: usize, size: u32, n: usize) -> usize
-    requires at_lt_n { at < n }
-    requires le_size { 1 ≤ size }
-    ensures lower_bound { at < result }
-    ensures upper_bound { result ≤ n }
-{
-    if n - at <= size as usize {
-        n
-    } else {
-        at + size as usize
+    for chunk in page.chunks(size as usize) {
+        ses::put_chunk(collector, chunk);
     }
 }

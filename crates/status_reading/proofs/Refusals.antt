@@ -1,4 +1,5 @@
 -- A status page read: one refusal after the other, and what an accepted one leaves. Assumes nothing.
+use Rattle.std.specs.Prelude.{Ok}
 use mathlib.Core.Path.{◌≡◌, refl, ap, ◌∙◌}
 use mathlib.Core.Bool.{Bool, true, false}
 use mathlib.Core.List.{List, ◌++◌}
@@ -8,9 +9,6 @@ use lib.ListN.{length, get_or, drop}
 use borrow.Author.Tests.{eq-eqb}
 use Rattle.bits.specs.Choice.{pick}
 use Rattle.bits.specs.Places.{four_at}
-use Rattle.refusals.specs.declared.Answer.TheVariants as answer
-use Rattle.refusals.specs.declared.PageAnswer.{PageAnswer}
-use Rattle.refusals.specs.declared.PageAnswer.TheVariants as page
 use Rattle.refusals.specs.Outcomes.{offence_tested, placed}
 use Rattle.refusals.proofs.AcceptedTests.{held_page, held_offence}
 use Rattle.shelf.specs.Limits.{most_types, most_elements}
@@ -25,15 +23,16 @@ use Rattle.status_record.proofs.WholeRecord.{record_put}
 use Rattle.shelf_status.specs.declared.PageBits.{PageBits}
 use Rattle.status_record.specs.Entries.{record_with, entry_place, head_put, entries_put}
 use Rattle.status_reading.specs.Read.{offence, bytes_tested, status_tested, status_read, slot_shown, bits_on, status_record}
+use Rattle.refusals.specs.Answers.{PageAnswer}
 
 -- the page's own tests
-pub bytes_tested_lem : (c p : List ℕ) (n : ℕ) {k m : ℕ} {r : PageAnswer} → k ≡ offence c p n → m ≡ slot_place n → r ≡ offence_tested k m answer.Accepted
+pub bytes_tested_lem : (c p : List ℕ) (n : ℕ) {k m : ℕ} {r : PageAnswer} → k ≡ offence c p n → m ≡ slot_place n → r ≡ offence_tested k m (Ok tt)
     → r ≡ bytes_tested c p n
 unfolding bytes_tested
 bytes_tested_lem c p n x y e = e ∙ rw (x, y)
 
-pub parts_read : (c p : List ℕ) → configuration_formed c ≡ true → headed c p 0x02 (slots_of c) ≡ answer.Accepted → offence c p (slots_of c) ≡ slot_place (slots_of c)
-    → status_read c p ≡ page.Accepted
+pub parts_read : (c p : List ℕ) → configuration_formed c ≡ true → headed c p 0x02 (slots_of c) ≡ Ok tt → offence c p (slots_of c) ≡ slot_place (slots_of c)
+    → status_read c p ≡ Ok tt
 unfolding status_read status_tested bytes_tested
 parts_read c p f h o = rw (f, h, eq-eqb (offence c p (slots_of c)) (slot_place (slots_of c)) o)
 
@@ -47,14 +46,14 @@ shown_length c p i = go (slot_at c i).overall
     go false = entry_length (slot_at c i).kind (four_at p (slot_place i))
 
 -- what an accepted page says
-module _ (c p : List ℕ) (a : status_read c p ≡ page.Accepted) where
-  pub read_parts : (configuration_formed c ≡ true) × (headed c p 0x02 (slots_of c) ≡ answer.Accepted) × (offence c p (slots_of c) ≡ slot_place (slots_of c))
+module _ (c p : List ℕ) (a : status_read c p ≡ Ok tt) where
+  pub read_parts : (configuration_formed c ≡ true) × (headed c p 0x02 (slots_of c) ≡ Ok tt) × (offence c p (slots_of c) ≡ slot_place (slots_of c))
   unfolding status_read status_tested bytes_tested
   read_parts =
       let n = slots_of c in
       let h1 = configuration_passed c (status_tested c p n) a in
       let h2 = held_page (headed c p 0x02 n) (bytes_tested c p n) h1.1 in
-      (h1.0, h2.0, (held_offence (offence c p n) (slot_place n) answer.Accepted h2.1).0)
+      (h1.0, h2.0, (held_offence (offence c p n) (slot_place n) (Ok tt) h2.1).0)
 
   pub read_front : HasFront c
   read_front = configuration_there c read_parts.0

@@ -1,4 +1,5 @@
 -- The status page of a well-formed shelf is accepted under the shelf's configuration, and shows what the shelf shows. Assumes nothing.
+use Rattle.std.specs.Prelude.{Ok}
 use mathlib.Core.Path.{◌≡◌, refl, sym, ap, ◌∙◌}
 use mathlib.Core.Bool.{Bool, true, false, not}
 use mathlib.Core.List.{List, [], ◌∷◌, ◌++◌}
@@ -19,8 +20,6 @@ use Rattle.element.specs.declared.settings.Settings.{Settings}
 use Rattle.element.specs.Types.{reading_allowed}
 use Rattle.element.specs.Settings.{settings_of}
 use Rattle.element.specs.Types.{verdict_of}
-use Rattle.refusals.specs.declared.Answer.TheVariants.{Accepted}
-use Rattle.refusals.specs.declared.PageAnswer.TheVariants as page
 use Rattle.shelf.specs.Limits.{most_types, most_elements, element_place}
 use Rattle.shelf.specs.Types.{kind_at}
 use Rattle.shelf.specs.Elements.{settings_at, thresholds_at, reading_at, nominal_at}
@@ -83,7 +82,7 @@ bits_on_lem p b e =
     λ i. record { noncritical = (ap (bit 2) e ∙ q.1) i; critical = (ap (bit 1) e ∙ q.2) i }
 
 -- the header passes its tests under the front's generation code
-head_told_lem : (s : List ℕ) → slots_of s ≤ most_types + most_elements → headed (front s) (status_page s) 0x02 (slots_of s) ≡ Accepted
+head_told_lem : (s : List ℕ) → slots_of s ≤ most_types + most_elements → headed (front s) (status_page s) 0x02 (slots_of s) ≡ Ok tt
 unfolding status_page page_with
 head_told_lem s l = told_headed (slot_row s (shown_in s)) (row_length s (shown_in s)) s 0x02 (bits_byte (page_bits s)) (omega (arith, l))
 
@@ -188,14 +187,14 @@ module _ (s : List ℕ) (hs : Bytes s) (w : well_formed s ≡ true) where
   none i l = ap not (le-ltb (slot_offending (front s) (status_page s) i) 4 (omega (arith, not_offending i l)))
 
   -- it is accepted
-  pub told_read : status_read (front s) (status_page s) ≡ page.Accepted
+  pub told_read : status_read (front s) (status_page s) ≡ Ok tt
   told_read =
       let n = slots_of s in
       let o = none_refused (front s) (status_page s) n (ap (only (2 ∷ 1 ∷ [])) own ∙ own_only (page_bits s).noncritical (page_bits s).critical)
       (below_all (fails (refused_in (slot_offending (front s) (status_page s)))) n none) refl in
       parts_read (front s) (status_page s) (configuration_of_lem s w) (rw (slots_same s) head) (rw (slots_same s) (sym o))
     where
-      head : headed (front s) (status_page s) 0x02 (slots_of s) ≡ Accepted
+      head : headed (front s) (status_page s) 0x02 (slots_of s) ≡ Ok tt
       head = head_told_lem s few
 
   -- and hands back what the shelf shows

@@ -1,10 +1,8 @@
 -- The status page read: which pages are refused, and what the others show. Assumes nothing.
-use Rattle.std.specs.Prelude.{Bool, List, [], ◌∷◌, ℕ, get_or}
+use Rattle.std.specs.Prelude.{Bool, List, [], ◌∷◌, ℕ, get_or, Ok}
 use Rattle.bits.specs.Choice.{pick, first_below}
 use Rattle.bits.specs.Bits.{bit, only}
 use Rattle.bits.specs.Places.{four_at}
-use Rattle.refusals.specs.declared.PageAnswer.{PageAnswer}
-use Rattle.refusals.specs.declared.Answer.TheVariants.{Accepted}
 use Rattle.refusals.specs.Outcomes.{offence_tested, page_next}
 use Rattle.element.specs.Types.{rules_of}
 use Rattle.element.specs.Status.{overall_allows, code_alone, entry_of}
@@ -14,6 +12,7 @@ use Rattle.page.specs.Offends.{offends_on}
 use Rattle.page.specs.Header.{configuration_tested, headed}
 use Rattle.shelf_status.specs.declared.PageBits.{PageBits}
 use Rattle.status_record.specs.Entries.{record_with}
+use Rattle.refusals.specs.Answers.{PageAnswer}
 
 -- byte 1 may have NON-CRIT and CRIT, bits 2 and 1, and no other
 abbrev pub first_allows : List ℕ → Bool
@@ -35,7 +34,7 @@ offence c p n = first_below (offends c p) (slot_place n)
 
 -- 6: a byte of the page is refused, and the first is told
 unfoldable pub bytes_tested : List ℕ → List ℕ → ℕ → PageAnswer
-bytes_tested c p n = offence_tested (offence c p n) (slot_place n) Accepted
+bytes_tested c p n = offence_tested (offence c p n) (slot_place n) (Ok tt)
 
 -- 2 to 4, 12, 5: the header of a page of n slots; 6: its bytes
 unfoldable pub status_tested : List ℕ → List ℕ → ℕ → PageAnswer

@@ -1,18 +1,17 @@
 // The page read, under a configuration.
-ghost use Rattle.std.specs.Prelude.{◌≡◌, ◌+◌, ◌≤◌, length, get_or};
+ghost use Rattle.std.specs.Prelude.{◌≡◌, ◌+◌, ◌≤◌, length, get_or, Ok};
 ghost use Rattle.bits.specs.Choice.{pick};
 ghost use Rattle.bits.specs.Places.{four_at};
 ghost use Rattle.element.specs.Status.{status_offending, overall_offending, code_alone, entry_of};
-ghost use Rattle.refusals.specs.declared.PageAnswer.TheVariants.{Accepted};
 ghost use Rattle.refusals.specs.Outcomes.{placed, HandsBack};
 ghost use Rattle.shelf_formed.specs.Formed.{HasFront};
 ghost use Rattle.page.specs.Slots.{slots_of, slot_place};
 ghost use Rattle.status_record.specs.Entries.{entry_place, entries_put};
-ghost use Rattle.status_reading.specs.Read.{offence, bytes_tested, status_tested, slot_shown, bits_on, status_read, status_record};
+ghost use Rattle.status_reading.specs.Read.{offence, bytes_tested, slot_shown, bits_on, status_read, status_record};
 
 use page::slots::Slot;
-use page::{header, slots, testing};
-use refusals::{Answer, PageAnswer, Tested};
+use page::{slots, testing};
+use refusals::PageRefusal;
 use shelf_status::PageBits;
 use status_page::writing;
 
@@ -21,16 +20,16 @@ fn slot_offending(page: &[u8], at: Slot, i: u16) -> u8
     requires { slot_place i + 4 ≤ length page.now }
     ensures { result ≡ pick at.overall (overall_offending (four_at page.now (slot_place i))) (status_offending at.kind (four_at page.now (slot_place i))) }
 {
-    let kind = at.kind;
     let e = bits::four_at(page, slots::slot_place(i));
     if at.overall {
         element_status::overall_offending(e)
     } else {
-        element_status::offending(kind, e)
+        element_status::offending(at.kind, e)
     }
 }
 
-// The first byte of the page, in page order, that is refused; the page's length if none is.
+// The first byte of the page, in page order, that is refused; the page's length if none is. By page::walk::test_slots, as in
+// control_page, reading a page takes more than 1.5 times the instructions of plain C.
 fn first_offence(configuration: &[u8], page: &[u8], n: u16) -> u32
     requires has_front { HasFront configuration.now }
     requires n_bound { n ≤ slots_of configuration.now }
@@ -41,16 +40,13 @@ fn first_offence(configuration: &[u8], page: &[u8], n: u16) -> u32
         return 1;
     }
     let mut run = slots::first_run();
-    let mut i: u16 = 0;
-    while i < n {
-        let here = slots::run_to(configuration, run, i);
-        run = here;
-        let at = slots::slot_in(here, i);
+    for i in 0..n {
+        run = slots::run_to(configuration, run, i);
+        let at = slots::slot_in(run, i);
         let k = slot_offending(page, at, i);
         if k < 4 {
             return slots::slot_place(i) + k as u32;
         }
-        i += 1;
     }
     slots::slot_place(n)
 }
@@ -60,12 +56,11 @@ fn slot_shown(page: &[u8], at: Slot, i: u16) -> [u8; element_status::ENTRY]
     requires { slot_place i + 4 ≤ length page.now }
     ensures { result ≡ pick at.overall (code_alone (get_or page.now (slot_place i) 0)) (entry_of at.kind (four_at page.now (slot_place i))) }
 {
-    let kind = at.kind;
     let e = bits::four_at(page, slots::slot_place(i));
     if at.overall {
         element_status::code_alone(e[0])
     } else {
-        element_status::types::entry(kind, e)
+        element_status::types::entry(at.kind, e)
     }
 }
 
@@ -88,52 +83,33 @@ fn put_entries(configuration: &[u8], page: &[u8], fields: &mut [u8], n: u16)
     ensures { fields.new ≡ entries_put (slot_shown configuration.now page.now) fields.old n }
 {
     let mut run = slots::first_run();
-    let mut i: u16 = 0;
-    while i < n {
-        let here = slots::run_to(configuration, run, i);
-        run = here;
-        let at = slots::slot_in(here, i);
+    for i in 0..n {
+        run = slots::run_to(configuration, run, i);
+        let at = slots::slot_in(run, i);
         status_record::put_entry(fields, i, slot_shown(page, at, i));
-        i += 1;
     }
 }
 
 // The page's own tests.
-fn test_bytes(configuration: &[u8], page: &[u8], n: u16) -> PageAnswer
+fn test_bytes(configuration: &[u8], page: &[u8], n: u16) -> Result<(), PageRefusal>
     requires has_front { HasFront configuration.now }
     requires n_bound { n ≤ slots_of configuration.now }
     requires n_in_bounds { slot_place n ≤ length page.now }
     ensures { result ≡ bytes_tested configuration.now page.now n }
 {
-    PageAnswer::searched(first_offence(configuration, page, n), slots::slot_place(n))
+    refusals::searched(first_offence(configuration, page, n), slots::slot_place(n))
 }
 
-// A page of n slots, its header and then its bytes.
-fn test_page(configuration: &[u8], page: &[u8], n: u16) -> PageAnswer
-    requires has_front { HasFront configuration.now }
-    requires n_bound { n ≤ slots_of configuration.now }
-    ensures { result ≡ status_tested configuration.now page.now n }
-{
-    let head = header::test(configuration, page, writing::CODE, n);
-    let Answer::Accepted = head else {
-        return PageAnswer::of(head);
-    };
-    test_bytes(configuration, page, n)
-}
-
-pub fn test(configuration: &[u8], page: &[u8]) -> PageAnswer
+pub fn test(configuration: &[u8], page: &[u8]) -> Result<(), PageRefusal>
     ensures { result ≡ status_read configuration.now page.now }
 {
-    let configured = testing::configuration_slots(configuration);
-    let Tested::Slots(n) = configured else {
-        return PageAnswer::of(configured.answer());
-    };
-    test_page(configuration, page, n)
+    let counted = testing::read_slots(configuration, page, writing::CODE);
+    testing::and_test_bytes(counted, |n| test_bytes(configuration, page, n))
 }
 
 // The record that an accepted page tells.
 fn hand_over(configuration: &[u8], page: &[u8], fields: &mut [u8; status_record::LENGTH])
-    requires { status_read configuration.now page.now ≡ Accepted }
+    requires { status_read configuration.now page.now ≡ Ok tt }
     ensures { fields.new ≡ placed (status_record configuration.now page.now) fields.old }
 {
     let n = slots::count(configuration);
@@ -145,11 +121,11 @@ pub fn read(
     configuration: &[u8],
     page: &[u8],
     fields: &mut [u8; status_record::LENGTH],
-) -> PageAnswer
+) -> Result<(), PageRefusal>
     ensures { HandsBack (status_read configuration.now page.now) (status_record configuration.now page.now) fields.old result fields.new }
 {
     let tested = test(configuration, page);
-    let PageAnswer::Accepted = tested else {
+    let Ok(()) = tested else {
         return tested;
     };
     hand_over(configuration, page, fields);

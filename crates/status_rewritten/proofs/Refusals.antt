@@ -1,4 +1,5 @@
 -- The test of one entry, and the refusals of the writer one after the other. Assumes nothing.
+use Rattle.std.specs.Prelude.{Ok, Err}
 use mathlib.Core.Path.{◌≡◌, ap, ◌∙◌}
 use mathlib.Core.Bool.{Bool}
 use mathlib.Core.List.{List}
@@ -6,8 +7,6 @@ use Prim.Native.Nat.{ℕ, ◌≤◌}
 use lib.ListN.{length}
 use Rattle.element.specs.StatusLayout.{fit}
 use Rattle.refusals.specs.declared.Refusal.{Refusal}
-use Rattle.refusals.specs.declared.Answer.{Answer}
-use Rattle.refusals.specs.declared.Answer.TheVariants.{Accepted, Refused}
 use Rattle.refusals.specs.Outcomes.{next, placed}
 use Rattle.refusals.proofs.Stages.{stopped, gone_on}
 use Rattle.record_head.specs.Head.{count_tested}
@@ -22,6 +21,7 @@ use Rattle.status_record.specs.Entries.{entry_at, bits_at}
 use Rattle.status_page.specs.Page.{slot_row}
 use Rattle.status_page.proofs.Refusals.{with_placed, with_length}
 use Rattle.status_rewritten.specs.Rewritten.{slot_most, entry_formed, bits_tested, fields_tested, entries_tested, record_tested, page_again}
+use Rattle.refusals.specs.Answers.{Answer}
 
 -- one entry's test
 pub entry_tested : (c r : List ℕ) (i : ℕ) {at : Slot} {t : Bool} → at ≡ slot_at c i → t ≡ fit (slot_most at) (entry_at r i) 16 → t ≡ entry_formed c r i
@@ -33,20 +33,20 @@ module _ (c r : List ℕ) (n : ℕ) {a : Answer} (h : a ≡ count_tested r n) wh
   abbrev behind : Answer
   behind = next (bits_tested r) (fields_tested c r n)
 
-  pub other_count : {x : Refusal} → a ≡ Refused x → a ≡ entries_tested c r n
+  pub other_count : {x : Refusal} → a ≡ Err x → a ≡ entries_tested c r n
   unfolding entries_tested
   other_count u = stopped (count_tested r n) behind h u
 
-  module _ (u : a ≡ Accepted) {b : Answer} (k : b ≡ bits_tested r) where
-    pub other_bits : {x : Refusal} → b ≡ Refused x → b ≡ entries_tested c r n
+  module _ (u : a ≡ Ok tt) {b : Answer} (k : b ≡ bits_tested r) where
+    pub other_bits : {x : Refusal} → b ≡ Err x → b ≡ entries_tested c r n
     unfolding entries_tested
     other_bits v = gone_on (count_tested r n) behind h u (stopped (bits_tested r) (fields_tested c r n) k v)
 
-    pub fields_last : {d : Answer} → b ≡ Accepted → d ≡ fields_tested c r n → d ≡ entries_tested c r n
+    pub fields_last : {d : Answer} → b ≡ Ok tt → d ≡ fields_tested c r n → d ≡ entries_tested c r n
     unfolding entries_tested
     fields_last v q = gone_on (count_tested r n) behind h u (gone_on (bits_tested r) (fields_tested c r n) k v q)
 
-pub record_front : (c r : List ℕ) {a : Answer} → a ≡ record_tested c r → a ≡ Accepted → HasFront c
+pub record_front : (c r : List ℕ) {a : Answer} → a ≡ record_tested c r → a ≡ Ok tt → HasFront c
 unfolding record_tested
 record_front c r = accepted_there c (entries_tested c r (slots_of c))
 

@@ -1,9 +1,7 @@
 -- The status page written again from a record r. Assumes nothing.
-use Rattle.std.specs.Prelude.{Bool, List, ℕ}
+use Rattle.std.specs.Prelude.{Bool, List, ℕ, Ok}
 use Rattle.bits.specs.Choice.{pick, all_below}
 use Rattle.refusals.specs.declared.Refusal.TheVariants.{NotAllowed}
-use Rattle.refusals.specs.declared.Answer.{Answer}
-use Rattle.refusals.specs.declared.Answer.TheVariants.{Accepted}
 use Rattle.refusals.specs.Outcomes.{unless, next}
 use Rattle.record_head.specs.Head.{count_tested}
 use Rattle.element.specs.StatusLayout.{fit}
@@ -13,6 +11,7 @@ use Rattle.page.specs.Slots.{slots_of, slot_at}
 use Rattle.page.specs.Header.{configuration_tested}
 use Rattle.status_page.specs.Page.{page_with}
 use Rattle.status_record.specs.Entries.{entry_at, bits_at, bits_formed}
+use Rattle.refusals.specs.Answers.{Answer}
 
 -- no field is out of range, or set where the slot shows none
 abbrev pub slot_most : Slot → List ℕ
@@ -26,11 +25,11 @@ entries_formed c r n = all_below (entry_formed c r) n
 
 -- 6: a page bit that is neither 0 nor 1
 abbrev pub bits_tested : List ℕ → Answer
-bits_tested r = unless (bits_formed r) NotAllowed Accepted
+bits_tested r = unless (bits_formed r) NotAllowed (Ok tt)
 
 -- 6: a field of the first n entries
 abbrev pub fields_tested : List ℕ → List ℕ → ℕ → Answer
-fields_tested c r n = unless (entries_formed c r n) NotAllowed Accepted
+fields_tested c r n = unless (entries_formed c r n) NotAllowed (Ok tt)
 
 -- 9: the number of entries; 6: the page bits, the fields
 unfoldable pub entries_tested : List ℕ → List ℕ → ℕ → Answer

@@ -5,13 +5,11 @@ use Prim.Native.Nat.{ℕ}
 use Rattle.bits.specs.Choice.{pick}
 use Rattle.shelf.specs.Elements.{thresholds_at}
 use Rattle.page.specs.declared.slots.Slot.{Slot}
-use Rattle.page.specs.declared.slots.SlotRun.{SlotRun}
-use Rattle.page.specs.Slots.{slot_run, slot_in}
-use Rattle.page.proofs.SlotWalk.{slot_walked}
+use Rattle.page.specs.Slots.{slot_at}
 use Rattle.threshold_page_in.specs.Page.{threshold_row}
 
 -- the four bytes that a shelf gives for slot i
-pub row_is : (s : List ℕ) (i : ℕ) {r : SlotRun} {at : Slot} {e : List ℕ} → r ≡ slot_run s i → at ≡ slot_in r i
+pub row_is : (s : List ℕ) (i : ℕ) {at : Slot} {e : List ℕ} → at ≡ slot_at s i
     → e ≡ pick at.overall (0 ∷ 0 ∷ 0 ∷ 0 ∷ []) (thresholds_at s at.first) → e ≡ threshold_row s i
 unfolding threshold_row
-row_is s i q u h = h ∙ rw (slot_walked s i q u)
+row_is s i q h = h ∙ rw q

@@ -1,4 +1,5 @@
 -- What a Threshold Out page makes of one element and of all, from what the calls say. Assumes nothing.
+use Rattle.std.specs.Prelude.{Ok, Err}
 use mathlib.Core.Path.{◌≡◌, refl, sym, ap, ◌∙◌}
 use mathlib.Core.Bool.{true}
 use mathlib.Core.List.{List}
@@ -9,8 +10,6 @@ use Rattle.bits.specs.Places.{four_at, fours_put}
 use Rattle.bits.proofs.FoursPut.{fours_next, fours_length, fours_joined}
 use Rattle.element.specs.Thresholds.{taken}
 use Rattle.refusals.specs.declared.PageRefusal.{PageRefusal}
-use Rattle.refusals.specs.declared.PageAnswer.{PageAnswer}
-use Rattle.refusals.specs.declared.PageAnswer.TheVariants.{Accepted, Refused}
 use Rattle.shelf.specs.Limits.{element_place, thresholds_place, HasElement}
 use Rattle.shelf.specs.Types.{elements_of}
 use Rattle.shelf_formed.proofs.FrontOfShelf.{front}
@@ -24,6 +23,7 @@ use Rattle.page.proofs.ElementSlots.{places_alike, element_there}
 use Rattle.threshold_page_out.specs.Tests.{thresholds_tested, valid, after}
 use Rattle.threshold_page_out.proofs.ValidPage.{valid_headed}
 use Rattle.threshold_page_out.specs.Taken.{taken_at, thresholds_after, taken_from, with_thresholds}
+use Rattle.refusals.specs.Answers.{PageAnswer}
 
 -- one element
 pub taken_is : (p : List ℕ) (at : Places) {a b t x : List ℕ} {stored : List ℕ} → a ≡ four_at p at.ownplace → b ≡ four_at p at.overallplace → t ≡ stored
@@ -75,14 +75,14 @@ module _ (s p : List ℕ) where
 
   -- the call as a whole
   module _ {a : PageAnswer} (h : a ≡ thresholds_tested s p) where
-    pub refused_after : {r : PageRefusal} → a ≡ Refused r → s ≡ after s p
+    pub refused_after : {r : PageRefusal} → a ≡ Err r → s ≡ after s p
     unfolding valid
     refused_after u = sym (rw (← h, u))
 
-    pub accepted_room : a ≡ Accepted → HasPage s p
+    pub accepted_room : a ≡ Ok tt → HasPage s p
     unfolding valid
     accepted_room u = let v : valid s p ≡ true = rw (← h, u) in tested_has s p 0x05 (valid_headed s p v)
 
-    pub accepted_after : {x : List ℕ} → a ≡ Accepted → x ≡ with_thresholds s (taken_from s p) → x ≡ after s p
+    pub accepted_after : {x : List ℕ} → a ≡ Ok tt → x ≡ with_thresholds s (taken_from s p) → x ≡ after s p
     unfolding valid
     accepted_after u e = e ∙ sym (rw (← h, u))

@@ -1,4 +1,5 @@
 -- What the tests of a Threshold Out page say of each element. Assumes nothing.
+use Rattle.std.specs.Prelude.{Ok}
 use mathlib.Core.Path.{◌≡◌}
 use mathlib.Core.Bool.{true}
 use mathlib.Core.List.{List}
@@ -9,7 +10,6 @@ use Rattle.bits.proofs.Logic.{below_at}
 use Rattle.element.specs.Types.{had, ordered}
 use Rattle.element.proofs.TypeThresholds.{taken_had}
 use Rattle.refusals.specs.declared.Refusal.TheVariants.{NoSuchThreshold, ThresholdOrder}
-use Rattle.refusals.specs.declared.Answer.TheVariants.{Accepted}
 use Rattle.refusals.proofs.AcceptedTests.{accepted, held, held_both, held_page, held_offence}
 use Rattle.shelf.specs.Types.{elements_of, kind_at}
 use Rattle.shelf.specs.Elements.{thresholds_at}
@@ -26,7 +26,7 @@ use Rattle.threshold_page_out.specs.Taken.{thresholds_after}
 use Rattle.threshold_page_out.specs.Tests.{element_ordered, all_ordered, order_tested, limits_tested, bytes_tested, thresholds_tested, valid}
 
 module _ (s p : List ℕ) (v : valid s p ≡ true) where
-  parts : (page_tested s p 0x05 ≡ Accepted) × (all_had s p on_page (slots_of s) ≡ true) × (all_ordered s p ≡ true)
+  parts : (page_tested s p 0x05 ≡ Ok tt) × (all_had s p on_page (slots_of s) ≡ true) × (all_ordered s p ≡ true)
   unfolding valid thresholds_tested bytes_tested limits_tested
   parts =
       let n = slots_of s in
@@ -34,9 +34,9 @@ module _ (s p : List ℕ) (v : valid s p ≡ true) where
       let h = held_page (page_tested s p 0x05) (bytes_tested s p n) (accepted (thresholds_tested s p) v) in
       let h1 = held_offence (first_below (byte_offends p) e) e (limits_tested s p n) h.1 in
       let h2 = held_both (had_tested s p on_page n) (order_tested s p) h1.1 in
-      (h.0, (held (all_had s p on_page n) NoSuchThreshold Accepted h2.0).0, (held (all_ordered s p) ThresholdOrder Accepted h2.1).0)
+      (h.0, (held (all_had s p on_page n) NoSuchThreshold (Ok tt) h2.0).0, (held (all_ordered s p) ThresholdOrder (Ok tt) h2.1).0)
 
-  pub valid_headed : page_tested s p 0x05 ≡ Accepted
+  pub valid_headed : page_tested s p 0x05 ≡ Ok tt
   valid_headed = parts.0
 
   pub valid_formed : well_formed s ≡ true

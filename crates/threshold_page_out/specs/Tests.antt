@@ -1,17 +1,15 @@
 -- Which Threshold Out pages a shelf accepts, and what the call leaves of it. Assumes nothing.
-use Rattle.std.specs.Prelude.{Bool, List, ℕ}
+use Rattle.std.specs.Prelude.{Bool, List, ℕ, Ok}
 use Rattle.bits.specs.Choice.{pick, all_below, first_below}
 use Rattle.element.specs.Types.{ordered}
 use Rattle.refusals.specs.declared.Refusal.TheVariants.{ThresholdOrder}
-use Rattle.refusals.specs.declared.Answer.{Answer}
-use Rattle.refusals.specs.declared.PageAnswer.{PageAnswer}
-use Rattle.refusals.specs.declared.Answer.TheVariants.{Accepted}
 use Rattle.refusals.specs.Outcomes.{unless, offence_tested, next, page_next, accepts}
 use Rattle.shelf.specs.Types.{elements_of, kind_at}
 use Rattle.page.specs.Slots.{slots_of, slot_place}
 use Rattle.page.specs.Header.{page_tested}
 use Rattle.threshold_rows.specs.Rows.{on_page, byte_offends, had_tested}
 use Rattle.threshold_page_out.specs.Taken.{thresholds_after, taken_from, with_thresholds}
+use Rattle.refusals.specs.Answers.{Answer, PageAnswer}
 
 -- element j would keep the threshold order
 unfoldable pub element_ordered : List ℕ → List ℕ → ℕ → Bool
@@ -22,7 +20,7 @@ all_ordered s p = all_below (element_ordered s p) (elements_of s)
 
 -- 8: some element would break the order
 abbrev pub order_tested : List ℕ → List ℕ → Answer
-order_tested s p = unless (all_ordered s p) ThresholdOrder Accepted
+order_tested s p = unless (all_ordered s p) ThresholdOrder (Ok tt)
 
 -- 7: a byte of the n slots, overall or individual, that the type doesn't have; 8: the order
 unfoldable pub limits_tested : List ℕ → List ℕ → ℕ → Answer

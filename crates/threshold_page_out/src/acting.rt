@@ -29,12 +29,9 @@ pub fn act(shelf: &mut [u8], page: &[u8])
 {
     let n = types::all_elements(shelf);
     let mut run = types::first_run(shelf);
-    let mut j: u16 = 0;
-    while j < n {
-        let here = types::run_to(shelf, run, j);
-        run = here;
-        let t = taken_at(shelf, page, places::places_in(here, j), j);
+    for j in 0..n {
+        run = types::run_to(shelf, run, j);
+        let t = taken_at(shelf, page, places::places_in(run, j), j);
         elements::put_thresholds(shelf, j, t);
-        j += 1;
     }
 }

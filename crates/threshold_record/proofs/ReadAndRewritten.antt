@@ -1,4 +1,5 @@
 -- A Threshold In page that was accepted is written again as the same bytes. Assumes nothing.
+use Rattle.std.specs.Prelude.{Ok}
 use mathlib.Core.Path.{◌≡◌, sym, ap, ap₂, ◌∙◌}
 use mathlib.Core.Bool.{true}
 use mathlib.Core.List.{List, ◌++◌}
@@ -9,8 +10,6 @@ use lib.Seq.{get_or-append-add, take_all}
 use Rattle.bits.specs.Rows.{bytes_at}
 use Rattle.bits.specs.Numbers.{Bytes}
 use Rattle.bits.proofs.Rows.{bytes_there, bytes_get, bytes_same, four_same}
-use Rattle.refusals.specs.declared.Answer.TheVariants.{Accepted}
-use Rattle.refusals.specs.declared.PageAnswer.TheVariants as page
 use Rattle.record_head.specs.Head.{record_head, count_tested}
 use Rattle.record_head.proofs.Counted.{count_back}
 use Rattle.shelf.specs.Limits.{most_types, most_elements}
@@ -47,9 +46,9 @@ module _ (p rest : List ℕ) (n : ℕ) where
   slots_back = bytes_same told p in_record on_page (4 * n) get
 
 -- writing again what an accepted reading gave, whatever stands behind it
-module _ (c p rest : List ℕ) (a : threshold_read c p ≡ page.Accepted) where
-  passed : (configuration_formed c ≡ true) × (headed c p 0x05 (slots_of c) ≡ Accepted) × (get_or p 1 0 ≡ 0)
-      × (offence c p on_page (slots_of c) ≡ slot_place (slots_of c)) × (limits_tested c p on_page (slots_of c) ≡ Accepted)
+module _ (c p rest : List ℕ) (a : threshold_read c p ≡ Ok tt) where
+  passed : (configuration_formed c ≡ true) × (headed c p 0x05 (slots_of c) ≡ Ok tt) × (get_or p 1 0 ≡ 0)
+      × (offence c p on_page (slots_of c) ≡ slot_place (slots_of c)) × (limits_tested c p on_page (slots_of c) ≡ Ok tt)
   passed = read_parts c p a
 
   few : slots_of c ≤ most_types + most_elements
@@ -62,10 +61,10 @@ module _ (c p rest : List ℕ) (a : threshold_read c p ≡ page.Accepted) where
   unfolding threshold_record
   entry_fine i l = fine_by c record_told p in_record on_page i (row_back p rest (slots_of c) i l) (rows_fine c p on_page (slots_of c) passed.3 passed.4 i l)
 
-  pub tested_again : record_tested c record_told ≡ Accepted
+  pub tested_again : record_tested c record_told ≡ Ok tt
   unfolding record_tested entries_tested threshold_record
   tested_again =
-      let n : count_tested record_told (slots_of c) ≡ Accepted = count_back 0 0 (slots_of c) (bytes_at p on_page (4 * slots_of c) ++ rest) (omega (arith, few)) in
+      let n : count_tested record_told (slots_of c) ≡ (Ok tt) = count_back 0 0 (slots_of c) (bytes_at p on_page (4 * slots_of c) ++ rest) (omega (arith, few)) in
       rw (passed.0, n) (record_passed c record_told in_record (slots_of c) (fine_rows c record_told in_record (slots_of c) entry_fine))
 
   pub page_again_lem : Bytes c → Bytes p → page_again c record_told ≡ p

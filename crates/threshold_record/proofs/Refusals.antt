@@ -1,4 +1,5 @@
 -- A Threshold In page read and written again: one refusal after the other, and what an accepted one leaves. Assumes nothing.
+use Rattle.std.specs.Prelude.{Ok}
 use mathlib.Core.Path.{◌≡◌, refl, sym, ap, ◌∙◌}
 use mathlib.Core.Bool.{true}
 use mathlib.Core.List.{List, [], ◌++◌}
@@ -12,9 +13,6 @@ use Rattle.bits.specs.Rows.{bytes_at, put_bytes}
 use Rattle.bits.proofs.Logic.{pick_yes}
 use Rattle.bits.proofs.Rows.{length-bytes_at}
 use Rattle.bits.proofs.RowsPut.{put_behind, four_behind}
-use Rattle.refusals.specs.declared.Answer.{Answer}
-use Rattle.refusals.specs.declared.Answer.TheVariants as answer
-use Rattle.refusals.specs.declared.PageAnswer.TheVariants as page
 use Rattle.refusals.specs.Outcomes.{placed}
 use Rattle.refusals.proofs.AcceptedTests.{held_page, held_offence}
 use Rattle.record_head.specs.Head.{record_head}
@@ -32,9 +30,10 @@ use Rattle.threshold_rows.proofs.FirstOffence.{found}
 use Rattle.threshold_rows.proofs.ByteTests.{byte_zero}
 use Rattle.threshold_record.specs.Read.{bytes_tested, threshold_tested, threshold_read, threshold_record}
 use Rattle.threshold_record.specs.Rewritten.{entries_tested, record_tested, page_again}
+use Rattle.refusals.specs.Answers.{Answer}
 
-pub parts_read : (c p : List ℕ) → configuration_formed c ≡ true → headed c p 0x05 (slots_of c) ≡ answer.Accepted → get_or p 1 0 ≡ 0
-    → (offence c p on_page (slots_of c) ≡ slot_place (slots_of c)) × (limits_tested c p on_page (slots_of c) ≡ answer.Accepted) → threshold_read c p ≡ page.Accepted
+pub parts_read : (c p : List ℕ) → configuration_formed c ≡ true → headed c p 0x05 (slots_of c) ≡ Ok tt → get_or p 1 0 ≡ 0
+    → (offence c p on_page (slots_of c) ≡ slot_place (slots_of c)) × (limits_tested c p on_page (slots_of c) ≡ Ok tt) → threshold_read c p ≡ Ok tt
 unfolding threshold_read threshold_tested bytes_tested
 parts_read c p f h o r =
     let n = slots_of c in
@@ -43,9 +42,9 @@ parts_read c p f h o r =
     rw (f, h, eq-eqb k (slot_place n) e, r.1)
 
 -- what an accepted page says
-module _ (c p : List ℕ) (a : threshold_read c p ≡ page.Accepted) where
-  pub read_parts : (configuration_formed c ≡ true) × (headed c p 0x05 (slots_of c) ≡ answer.Accepted) × (get_or p 1 0 ≡ 0)
-      × (offence c p on_page (slots_of c) ≡ slot_place (slots_of c)) × (limits_tested c p on_page (slots_of c) ≡ answer.Accepted)
+module _ (c p : List ℕ) (a : threshold_read c p ≡ Ok tt) where
+  pub read_parts : (configuration_formed c ≡ true) × (headed c p 0x05 (slots_of c) ≡ Ok tt) × (get_or p 1 0 ≡ 0)
+      × (offence c p on_page (slots_of c) ≡ slot_place (slots_of c)) × (limits_tested c p on_page (slots_of c) ≡ Ok tt)
   unfolding threshold_read threshold_tested bytes_tested
   read_parts =
       let n = slots_of c in
@@ -77,7 +76,7 @@ record_placed c p r {n} {x} {y} e l u v =
     ∙ put_behind (record_head 0 0 n) r f in_record refl (omega (arith, length-bytes_at p on_page (4 * n)))
     ∙ ap (λ (m : ℕ). placed (record_head 0 0 m ++ bytes_at p on_page (4 * m)) r) e
 
-pub record_front : (c r : List ℕ) {a : Answer} → a ≡ record_tested c r → a ≡ answer.Accepted → HasFront c
+pub record_front : (c r : List ℕ) {a : Answer} → a ≡ record_tested c r → a ≡ Ok tt → HasFront c
 unfolding record_tested
 record_front c r = accepted_there c (entries_tested c r (slots_of c))
 

@@ -1,4 +1,5 @@
 -- The Threshold In page of a well-formed shelf is accepted under the shelf's configuration, and hands back the shelf's thresholds. Assumes nothing.
+use Rattle.std.specs.Prelude.{Ok}
 use mathlib.Core.Path.{◌≡◌, refl, sym, ap, ◌∙◌}
 use mathlib.Core.Bool.{true, false}
 use mathlib.Core.List.{List, [], ◌∷◌, ◌++◌}
@@ -14,8 +15,6 @@ use Rattle.bits.proofs.Rows.{length-joined, bytes_there}
 use Rattle.element.specs.declared.types.Kind.{Kind}
 use Rattle.element.specs.Types.{had, ordered}
 use Rattle.element.proofs.TypeThresholds.{zeros_had, zeros_ordered}
-use Rattle.refusals.specs.declared.Answer.TheVariants.{Accepted}
-use Rattle.refusals.specs.declared.PageAnswer.TheVariants as page
 use Rattle.record_head.specs.Head.{record_head}
 use Rattle.shelf.specs.Limits.{most_types, most_elements}
 use Rattle.shelf.specs.Elements.{thresholds_at}
@@ -53,7 +52,7 @@ module _ (s : List ℕ) (w : well_formed s ≡ true) where
   few = slots_bound s f
 
   -- the header passes its tests under the front's generation code
-  head_told_lem : headed (front s) (threshold_page s) 0x05 (slots_of s) ≡ Accepted
+  head_told_lem : headed (front s) (threshold_page s) 0x05 (slots_of s) ≡ Ok tt
   unfolding threshold_page
   head_told_lem = told_headed (threshold_row s) (row_length s) s 0x05 0 (omega (arith, few))
 
@@ -110,7 +109,7 @@ module _ (s : List ℕ) (w : well_formed s ≡ true) where
         )
 
   -- it is accepted
-  pub told_read : threshold_read (front s) (threshold_page s) ≡ page.Accepted
+  pub told_read : threshold_read (front s) (threshold_page s) ≡ Ok tt
   told_read =
       parts_read (front s) (threshold_page s) (configuration_of_lem s w) (rw (slots_same s) head_told_lem) own
       (rw (slots_same s) (fine_rows (front s) (threshold_page s) on_page (slots_of s) fine))

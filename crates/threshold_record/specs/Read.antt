@@ -2,12 +2,12 @@
 use Rattle.std.specs.Prelude.{List, ◌++◌, ℕ, ◌*◌}
 use Rattle.bits.specs.Choice.{first_below}
 use Rattle.bits.specs.Rows.{bytes_at}
-use Rattle.refusals.specs.declared.PageAnswer.{PageAnswer}
 use Rattle.refusals.specs.Outcomes.{offence_tested, page_next}
 use Rattle.record_head.specs.Head.{record_head}
 use Rattle.page.specs.Slots.{slots_of, slot_place}
 use Rattle.page.specs.Header.{configuration_tested, headed}
 use Rattle.threshold_rows.specs.Rows.{on_page, offends, limits_tested}
+use Rattle.refusals.specs.Answers.{PageAnswer}
 
 -- 6: byte 1 is not zero, or a byte of an overall slot; 7, 8: the slots
 unfoldable pub bytes_tested : List ℕ → List ℕ → ℕ → PageAnswer

@@ -1,12 +1,12 @@
 -- The Threshold In page written again from a record r. Assumes nothing.
 use Rattle.std.specs.Prelude.{List, ◌++◌, ℕ, ◌*◌}
 use Rattle.bits.specs.Rows.{bytes_at}
-use Rattle.refusals.specs.declared.Answer.{Answer}
 use Rattle.refusals.specs.Outcomes.{next}
 use Rattle.record_head.specs.Head.{count_tested}
 use Rattle.page.specs.Slots.{slots_of}
 use Rattle.page.specs.Header.{configuration_tested, header}
 use Rattle.threshold_rows.specs.Rows.{in_record, rows_tested}
+use Rattle.refusals.specs.Answers.{Answer}
 
 -- 9: another number of entries than n; 6, 7, 8: the entries
 unfoldable pub entries_tested : List ℕ → List ℕ → ℕ → Answer

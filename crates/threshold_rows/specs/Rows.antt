@@ -1,20 +1,15 @@
 -- Rows of four threshold bytes in a block b, from the place k on: the slots of a page, or the entries of a record. Assumes nothing.
-use Rattle.std.specs.Prelude.{Bool, true, not, List, ℕ, ◌+◌, ◌*◌, ◌≤◌, eqb, length, get_or}
+use Rattle.std.specs.Prelude.{Bool, true, not, List, ℕ, ◌+◌, ◌*◌, ◌≤◌, eqb, length, get_or, Result, Ok, Err}
 use Rattle.bits.specs.Choice.{pick, all_below, first_below, offence_in}
 use Rattle.bits.specs.Places.{four_at}
 use Rattle.element.specs.Types.{had, ordered}
 use Rattle.refusals.specs.declared.Refusal.TheVariants.{NotAllowed, NoSuchThreshold, ThresholdOrder}
-use Rattle.refusals.specs.declared.Answer.{Answer}
-use Rattle.refusals.specs.declared.Answer.TheVariants.{Accepted}
-use Rattle.refusals.specs.declared.PageAnswer.{PageAnswer}
-use Rattle.refusals.specs.declared.PageAnswer.TheVariants as page
 use Rattle.refusals.specs.Outcomes.{unless, not_allowed_at, offence_tested, next}
 use Rattle.shelf_formed.specs.Formed.{HasFront}
 use Rattle.page.specs.Slots.{slots_of, slot_at}
 use Rattle.page.specs.Offends.{offends_on}
 use Rattle.threshold_rows.specs.declared.Seen.{Seen}
-use Rattle.threshold_rows.specs.declared.Scanned.{Scanned}
-use Rattle.threshold_rows.specs.declared.Scanned.TheVariants.{Rows, Offending}
+use Rattle.refusals.specs.Answers.{Answer, PageAnswer}
 
 -- where the rows start
 abbrev pub on_page : ℕ
@@ -77,19 +72,19 @@ byte_offends p k = offends_on (first_allows p) (λ i j. true) k
 
 -- 6: byte 1
 abbrev pub byte_tested : List ℕ → PageAnswer
-byte_tested p = pick (first_allows p) page.Accepted (not_allowed_at 1)
+byte_tested p = pick (first_allows p) (Ok tt) (not_allowed_at 1)
 
 -- 6: a byte of an overall row
 abbrev pub overall_tested : List ℕ → List ℕ → ℕ → ℕ → Answer
-overall_tested c b k n = unless (eqb (offence c b k n) (row_place k n)) NotAllowed Accepted
+overall_tested c b k n = unless (eqb (offence c b k n) (row_place k n)) NotAllowed (Ok tt)
 
 -- 7: a byte that the row's type doesn't have
 abbrev pub had_tested : List ℕ → List ℕ → ℕ → ℕ → Answer
-had_tested c b k n = unless (all_had c b k n) NoSuchThreshold Accepted
+had_tested c b k n = unless (all_had c b k n) NoSuchThreshold (Ok tt)
 
 -- 8: the order
 abbrev pub order_tested : List ℕ → List ℕ → ℕ → ℕ → Answer
-order_tested c b k n = unless (all_ordered c b k n) ThresholdOrder Accepted
+order_tested c b k n = unless (all_ordered c b k n) ThresholdOrder (Ok tt)
 
 -- 7, 8: each is tested of all rows before the next
 abbrev pub limits_tested : List ℕ → List ℕ → ℕ → ℕ → Answer
@@ -107,13 +102,9 @@ slots_tested c p n = offence_tested (offence c p on_page n) (row_place on_page n
 abbrev pub seen : List ℕ → List ℕ → ℕ → ℕ → Seen
 seen c b k n = record { had = all_had c b k n; ordered = all_ordered c b k n }
 
-unfoldable pub scanned : List ℕ → List ℕ → ℕ → ℕ → Scanned
-scanned c b k n = pick (eqb (offence c b k n) (row_place k n)) (Rows (seen c b k n)) (Offending (offence c b k n))
+unfoldable pub scanned : List ℕ → List ℕ → ℕ → ℕ → Result Seen ℕ
+scanned c b k n = pick (eqb (offence c b k n) (row_place k n)) (Ok (seen c b k n)) (Err (offence c b k n))
 
 -- and what that comes to
 abbrev pub seen_tested : Seen → Answer
-seen_tested s = next (unless s.had NoSuchThreshold Accepted) (unless s.ordered ThresholdOrder Accepted)
-
-abbrev pub scanned_answer : Scanned → PageAnswer
-scanned_answer (Rows s) = page.Accepted
-scanned_answer (Offending k) = not_allowed_at k
+seen_tested s = next (unless s.had NoSuchThreshold (Ok tt)) (unless s.ordered ThresholdOrder (Ok tt))

@@ -3,15 +3,16 @@
 // The rows of a page and of a record are tested alike, so the tests take a block and the place where its rows start.
 #![tactic(auto)]
 
-ghost use Rattle.std.specs.Prelude.{◌≡◌, ◌+◌, ◌≤◌, length};
+ghost use Rattle.std.specs.Prelude.{◌≡◌, ◌+◌, ◌≤◌, length, Ok};
 ghost use Rattle.bits.specs.Choice.{pick};
+ghost use Rattle.element.specs.Types.{had};
 ghost use Rattle.refusals.specs.declared.Refusal.TheVariants.{NoSuchThreshold, ThresholdOrder};
-ghost use Rattle.refusals.specs.declared.Answer.TheVariants.{Accepted};
 ghost use Rattle.refusals.specs.Outcomes.{unless};
-ghost use Rattle.threshold_rows.specs.Rows.{on_page, in_record, row_place, row_at, HasRows, first_set, byte_tested, had_tested, scanned, seen_tested, scanned_answer, rows_tested, slots_tested};
+ghost use Rattle.threshold_rows.specs.Rows.{on_page, in_record, row_place, row_at, HasRows, first_set, byte_tested, had_tested, scanned, seen_tested, rows_tested, slots_tested};
 
-use page::slots;
-use refusals::{Answer, PageAnswer, Refusal};
+use page::slots::Slot;
+use page::{slots, walk};
+use refusals::{PageRefusal, Refusal};
 
 // Where the rows start.
 pub const ON_PAGE: u16 = 8;
@@ -23,13 +24,6 @@ pub const IN_RECORD: u16 = 4;
 pub struct Seen {
     pub had: bool,
     pub ordered: bool,
-}
-
-// What one pass over rows comes to: where a refused byte of an overall row stands, or what is seen of all.
-#[derive(Clone, Copy)]
-pub enum Scanned {
-    Rows(Seen),
-    Offending(u32),
 }
 
 fn row_place(start: u16, i: u16) -> u32
@@ -70,120 +64,102 @@ fn row_offending(overall: bool, e: [u8; 4]) -> u8
 }
 
 // Byte 1 of a page of thresholds.
-pub fn test_byte(page: &[u8]) -> PageAnswer
+pub fn test_byte(page: &[u8]) -> Result<(), PageRefusal>
     requires { 4 ≤ length page.now }
     ensures { result ≡ byte_tested page.now }
 {
     if bits::byte_at(page, 1) != 0 {
-        return PageAnswer::not_allowed(1);
+        return refusals::not_allowed(1);
     }
-    PageAnswer::Accepted
+    Ok(())
 }
 
-pub fn test_had(configuration: &[u8], block: &[u8], start: u16, n: u16) -> Answer
+pub fn test_had(configuration: &[u8], block: &[u8], start: u16, n: u16) -> Result<(), Refusal>
     requires { HasRows configuration.now block.now start n }
     ensures { result ≡ had_tested configuration.now block.now start n }
 {
-    let mut run = slots::first_run();
-    let mut i: u16 = 0;
-    while i < n {
-        let here = slots::run_to(configuration, run, i);
-        run = here;
-        let kind = here.kind;
-        if !element_thresholds::are_had(kind, row_at(block, start, i)) {
-            return Answer::Refused(Refusal::NoSuchThreshold);
+    let test = |at: Slot, i: u16| -> Result<(), Refusal>
+        requires { row_place start i + 4 ≤ length block.now }
+        ensures { result ≡ unless (had at.kind (row_at block.entry.now start i)) NoSuchThreshold (Ok tt) }
+    {
+        if !element_thresholds::are_had(at.kind, row_at(block, start, i)) {
+            return Err(Refusal::NoSuchThreshold);
         }
-        i += 1;
-    }
-    Answer::Accepted
+        Ok(())
+    };
+    walk::test_slots(configuration, n, test)
 }
 
 impl Seen {
-    fn test_had(self) -> Answer
-        ensures { result ≡ unless self.had NoSuchThreshold Accepted }
+    fn test_had(self) -> Result<(), Refusal>
+        ensures { result ≡ unless self.had NoSuchThreshold (Ok tt) }
     {
         if !self.had {
-            return Answer::Refused(Refusal::NoSuchThreshold);
+            return Err(Refusal::NoSuchThreshold);
         }
-        Answer::Accepted
+        Ok(())
     }
 
-    fn test_order(self) -> Answer
-        ensures { result ≡ unless self.ordered ThresholdOrder Accepted }
+    fn test_order(self) -> Result<(), Refusal>
+        ensures { result ≡ unless self.ordered ThresholdOrder (Ok tt) }
     {
         if !self.ordered {
-            return Answer::Refused(Refusal::ThresholdOrder);
+            return Err(Refusal::ThresholdOrder);
         }
-        Answer::Accepted
+        Ok(())
     }
 
-    fn test(self) -> Answer
+    fn test(self) -> Result<(), Refusal>
         ensures { result ≡ seen_tested self }
     {
         let had = self.test_had();
-        let Answer::Accepted = had else {
+        let Ok(()) = had else {
             return had;
         };
         self.test_order()
     }
 }
 
-impl Scanned {
-    // Of a page, which is refused where it offends.
-    fn answer(self) -> PageAnswer
-        ensures { result ≡ scanned_answer self }
-    {
-        let Scanned::Offending(k) = self else {
-            return PageAnswer::Accepted;
-        };
-        PageAnswer::not_allowed(k)
-    }
-}
-
-fn scan(configuration: &[u8], block: &[u8], start: u16, n: u16) -> Scanned
+// One pass over rows: what is seen of all, or where a refused byte of an overall row stands.
+fn scan(configuration: &[u8], block: &[u8], start: u16, n: u16) -> Result<Seen, u32>
     requires { HasRows configuration.now block.now start n }
     ensures { result ≡ scanned configuration.now block.now start n }
 {
     let mut had = true;
     let mut ordered = true;
     let mut run = slots::first_run();
-    let mut i: u16 = 0;
-    while i < n {
-        let here = slots::run_to(configuration, run, i);
-        run = here;
-        let kind = here.kind;
+    for i in 0..n {
+        run = slots::run_to(configuration, run, i);
         let e = row_at(block, start, i);
-        let k = row_offending(here.overall, e);
+        let k = row_offending(run.overall, e);
         if k < 4 {
-            return Scanned::Offending(row_place(start, i) + k as u32);
+            return Err(row_place(start, i) + k as u32);
         }
-        had = had & element_thresholds::are_had(kind, e);
-        ordered = ordered & element_thresholds::are_ordered(kind, e);
-        i += 1;
+        had = had & element_thresholds::are_had(run.kind, e);
+        ordered = ordered & element_thresholds::are_ordered(run.kind, e);
     }
-    Scanned::Rows(Seen { had, ordered })
+    Ok(Seen { had, ordered })
 }
 
 // A refused byte of any row is told before a threshold that a type does not have, and that before the order.
-pub fn test_page(configuration: &[u8], page: &[u8], n: u16) -> PageAnswer
+pub fn test_page(configuration: &[u8], page: &[u8], n: u16) -> Result<(), PageRefusal>
     requires { HasRows configuration.now page.now on_page n }
     ensures { result ≡ slots_tested configuration.now page.now n }
 {
-    let scanned = scan(configuration, page, ON_PAGE, n);
-    let Scanned::Rows(seen) = scanned else {
-        return scanned.answer();
-    };
-    PageAnswer::of(seen.test())
+    match scan(configuration, page, ON_PAGE, n) {
+        Ok(seen) => refusals::of_page(seen.test()),
+        Err(k) => refusals::not_allowed(k),
+    }
 }
 
 // The same of a record handed in, where no offset is told.
-pub fn test_record(configuration: &[u8], fields: &[u8], n: u16) -> Answer
+pub fn test_record(configuration: &[u8], fields: &[u8], n: u16) -> Result<(), Refusal>
     requires { HasRows configuration.now fields.now in_record n }
     ensures { result ≡ rows_tested configuration.now fields.now in_record n }
 {
     let scanned = scan(configuration, fields, IN_RECORD, n);
-    let Scanned::Rows(seen) = scanned else {
-        return Answer::Refused(Refusal::NotAllowed);
+    let Ok(seen) = scanned else {
+        return Err(Refusal::NotAllowed);
     };
     seen.test()
 }

@@ -7,6 +7,7 @@ use shelf::limits;
 use std::env::FillError;
 use std::io;
 use std::rt::Env;
+use std::str::FromStr;
 
 // Which argument PAGE, WANTED, the name to find, or the number of what is named is, of a command that takes one.
 pub const INPUT_PLACE: u8 = 2;
@@ -59,73 +60,56 @@ pub enum Command {
     Set(Named),
 }
 
+// A word that names no command.
 #[derive(Clone, Copy)]
-pub enum Given {
-    Nothing,
-    Command(Command),
-    Unknown,
+pub struct UnknownCommand;
+
+impl FromStr for Command {
+    type Err = UnknownCommand;
+
+    fn from_str(word: &str) -> Result<Command, UnknownCommand> {
+        let command = match word {
+            "show" => Command::Show,
+            "check" => Command::Check,
+            "configuration" => Command::Page(Page::Configuration),
+            "status" => Command::Page(Page::Status),
+            "thresholds" => Command::Page(Page::Thresholds),
+            "descriptors" => Command::Page(Page::Descriptors),
+            "settings" => Command::Settings,
+            "build-control" => Command::Build,
+            "apply-control" => Command::Apply(Act::Control),
+            "apply-thresholds" => Command::Apply(Act::Thresholds),
+            "apply-pieces" => Command::Pieces,
+            "read-descriptors" => Command::Read,
+            "find-name" => Command::Find,
+            "set-name" => Command::Set(Named::Element),
+            "set-overall-name" => Command::Set(Named::Overall),
+            _ => return Err(UnknownCommand),
+        };
+        Ok(command)
+    }
 }
 
-pub fn first_given(rt: &impl Env) -> Given {
-    if count(rt) < 2 {
-        return Given::Nothing;
+// The command that the first argument names, if there is one. A word that is too long for the buffer names none.
+pub fn first_given(rt: &impl Env) -> Result<Option<Command>, UnknownCommand> {
+    let mut word = [0u8; 20];
+    match rt.arg(1, &mut word) {
+        Ok(n) => Ok(Some(command_of(&word[..n])?)),
+        Err(FillError::NotPresent) => Ok(None),
+        Err(FillError::TooLong) => Err(UnknownCommand),
     }
-    if first_is(rt, b"show") {
-        return Given::Command(Command::Show);
+}
+
+fn command_of(word: &[u8]) -> Result<Command, UnknownCommand> {
+    match str::from_utf8(word) {
+        Ok(word) => word.parse(),
+        Err(_) => Err(UnknownCommand),
     }
-    if first_is(rt, b"check") {
-        return Given::Command(Command::Check);
-    }
-    if first_is(rt, b"configuration") {
-        return Given::Command(Command::Page(Page::Configuration));
-    }
-    if first_is(rt, b"status") {
-        return Given::Command(Command::Page(Page::Status));
-    }
-    if first_is(rt, b"thresholds") {
-        return Given::Command(Command::Page(Page::Thresholds));
-    }
-    if first_is(rt, b"descriptors") {
-        return Given::Command(Command::Page(Page::Descriptors));
-    }
-    if first_is(rt, b"settings") {
-        return Given::Command(Command::Settings);
-    }
-    if first_is(rt, b"build-control") {
-        return Given::Command(Command::Build);
-    }
-    if first_is(rt, b"apply-control") {
-        return Given::Command(Command::Apply(Act::Control));
-    }
-    if first_is(rt, b"apply-thresholds") {
-        return Given::Command(Command::Apply(Act::Thresholds));
-    }
-    if first_is(rt, b"apply-pieces") {
-        return Given::Command(Command::Pieces);
-    }
-    if first_is(rt, b"read-descriptors") {
-        return Given::Command(Command::Read);
-    }
-    if first_is(rt, b"find-name") {
-        return Given::Command(Command::Find);
-    }
-    if first_is(rt, b"set-name") {
-        return Given::Command(Command::Set(Named::Element));
-    }
-    if first_is(rt, b"set-overall-name") {
-        return Given::Command(Command::Set(Named::Overall));
-    }
-    Given::Unknown
 }
 
 // How many arguments the program was started with, its own name among them.
 pub fn count(rt: &impl Env) -> usize {
-    for n in 0..usize::MAX {
-        if !is_given(rt, n) {
-            return n;
-        }
-    }
-    usize::MAX
+    (0..usize::MAX).take_while(|n| is_given(rt, *n)).count()
 }
 
 fn is_given(rt: &impl Env, place: usize) -> bool {
@@ -133,15 +117,6 @@ fn is_given(rt: &impl Env, place: usize) -> bool {
     match rt.arg(place, &mut nothing) {
         Ok(_) | Err(FillError::TooLong) => true,
         Err(FillError::NotPresent) => false,
-    }
-}
-
-// Whether the first argument is this word. One that is too long for the buffer is none.
-fn first_is(rt: &impl Env, word: &[u8]) -> bool {
-    let mut given = [0u8; 20];
-    match rt.arg(1, &mut given) {
-        Ok(n) => &given[..n] == word,
-        Err(_) => false,
     }
 }
 
@@ -160,59 +135,32 @@ pub fn file_place(command: Command) -> u8 {
 pub fn name(rt: &impl Env, place: u8, buffer: &mut [u8]) -> usize
     ensures { IsPrefixLen result buffer.new }
 {
-    match rt.arg(place as usize, buffer) {
-        Ok(n) => n,
-        Err(_) => buffer.len(),
-    }
-}
-
-#[derive(Clone, Copy)]
-pub enum Told {
-    Number(u32),
-    Nothing,
+    rt.arg(place as usize, buffer).unwrap_or(buffer.len())
 }
 
 // The number that decimal digits tell. More of them than the buffer has room for tell none.
-pub fn number(rt: &impl Env, place: u8) -> Told {
+pub fn number(rt: &impl Env, place: u8) -> Option<u32> {
     let mut digits = [0u8; 20];
     match rt.arg(place as usize, &mut digits) {
         Ok(n) => told_by(&digits[..n]),
-        Err(_) => Told::Nothing,
+        Err(_) => None,
     }
 }
 
-// The same, or another number where none is told.
-pub fn number_or(rt: &impl Env, place: u8, other: u32) -> u32 {
-    let told = number(rt, place);
-    match told {
-        Told::Number(n) => n,
-        Told::Nothing => other,
+fn told_by(digits: &[u8]) -> Option<u32> {
+    if digits.is_empty() {
+        return None;
     }
+    digits.iter().try_fold(0, |told, digit| match digit {
+        b'0'..=b'9' => Some(with_digit(told, *digit - b'0')),
+        _ => None,
+    })
 }
 
-fn told_by(digits: &[u8]) -> Told {
-    if digits.len() == 0 {
-        return Told::Nothing;
-    }
-    let mut told: u32 = 0;
-    for digit in digits {
-        if !is_digit(*digit) {
-            return Told::Nothing;
-        }
-        told = with_digit(told, *digit);
-    }
-    Told::Number(told)
-}
-
-fn is_digit(b: u8) -> bool {
-    (b'0' <= b) & (b <= b'9')
-}
-
-// The number with one more digit behind it, whose low half is its value. One that is past every element, code and page anyway stays as
-// it is.
+// The number with one more digit behind it. One that is past every element, code and page anyway stays as it is.
 fn with_digit(told: u32, digit: u8) -> u32 {
     if told < 100_000_000 {
-        10 * told + (digit % 16) as u32
+        10 * told + u32::from(digit)
     } else {
         told
     }
@@ -220,32 +168,27 @@ fn with_digit(told: u32, digit: u8) -> u32 {
 
 pub fn say_no_number(err: &impl Print, named: Named) -> io::Result<()> {
     match named {
-        Named::Element => say_wrong(err, b"ELEMENT is not a number of up to 20 digits\n"),
-        Named::Overall => say_wrong(err, b"TYPE is not a number of up to 20 digits\n"),
+        Named::Element => say_wrong(err, "ELEMENT is not a number of up to 20 digits"),
+        Named::Overall => say_wrong(err, "TYPE is not a number of up to 20 digits"),
     }
 }
 
 pub fn say_wrong_number(err: &impl Print) -> io::Result<()> {
-    say_wrong(err, b"wrong number of arguments\n")
+    say_wrong(err, "wrong number of arguments")
 }
 
-pub fn say_wrong(err: &impl Print, what: &[u8]) -> io::Result<()> {
-    err.write_all(what)?;
+pub fn say_wrong(err: &impl Print, what: &str) -> io::Result<()> {
+    err.println(what)?;
     say_usage(err)
 }
 
+const USAGE: &str =
+    "usage: shelfctl [show FILE | check FILE | configuration [FILE] | status [FILE] | thresholds [FILE] |
+                 descriptors [FILE] | settings [FILE] | build-control WANTED [FILE] |
+                 apply-control PAGE [FILE] | apply-thresholds PAGE [FILE] | apply-pieces SIZE CODE PAGE [FILE] |
+                 read-descriptors PAGE [FILE] | find-name NAME [FILE] | set-name ELEMENT NAME [FILE] |
+                 set-overall-name TYPE NAME [FILE]]";
+
 pub fn say_usage(err: &impl Print) -> io::Result<()> {
-    err.write_all(
-        b"usage: shelfctl [show FILE | check FILE | configuration [FILE] | status [FILE] | thresholds [FILE] |\n",
-    )?;
-    err.write_all(
-        b"                 descriptors [FILE] | settings [FILE] | build-control WANTED [FILE] |\n",
-    )?;
-    err.write_all(
-        b"                 apply-control PAGE [FILE] | apply-thresholds PAGE [FILE] | apply-pieces SIZE CODE PAGE [FILE] |\n",
-    )?;
-    err.write_all(
-        b"                 read-descriptors PAGE [FILE] | find-name NAME [FILE] | set-name ELEMENT NAME [FILE] |\n",
-    )?;
-    err.write_all(b"                 set-overall-name TYPE NAME [FILE]]\n")
+    err.println(USAGE)
 }

@@ -3,7 +3,7 @@
 // A buffer has one byte more than the longest shelf or wanted list, or than the most that a page's length field can tell.
 // So a longer file fills it, and is refused by that length as it would be by its own: as a shelf, 1; as a page, 4, and
 // as a wanted list, 9, unless the shelf or a page's byte 0 is refused before. What follows in the file changes no answer.
-ghost use Rattle.std.specs.Prelude.{◌≡◌, IfOk, length};
+ghost use Rattle.std.specs.Prelude.{◌≡◌, IfOk, IfSome, length};
 ghost use Rattle.tool_input.specs.Counts.{IsPrefixLen};
 
 use crate::arguments;
@@ -24,30 +24,54 @@ pub const PAGE_ROOM: usize = 0xffff + 4 + 1;
 // The system takes no longer path.
 const PATH_ROOM: usize = 4096;
 
-// Whether the file could be read, and how many bytes of it stand at the start of the buffer.
-#[derive(Clone, Copy)]
-pub struct Loaded {
-    pub is_done: bool,
-    pub bytes: usize,
+// How many bytes of the file stand at the start of the buffer then, if it could be read. What keeps it from being read goes to standard
+// error with the usage, under the argument's name if it is too long for a path. The one error is that this could not be written; the
+// buffer then keeps whatever was read.
+pub fn load<R: Env + Files>(
+    rt: &R,
+    err: &impl Print,
+    argument: u8,
+    name: &str,
+    buffer: &mut [u8],
+) -> io::Result<Option<usize>>
+    ensures prefix { IfOk result (λ loaded. IfSome loaded (λ n. IsPrefixLen n buffer.new)) }
+    ensures room { length buffer.new ≡ length buffer.old }
+{
+    let mut path = [0u8; PATH_ROOM];
+    match rt.arg(argument as usize, &mut path) {
+        Ok(n) => load_named(rt, err, &path[..n], buffer),
+        Err(e) => {
+            say_failed(err, name.as_bytes(), no_path(e))?;
+            Ok(None)
+        }
+    }
 }
 
-impl Loaded {
-    const FAILED: Loaded = Loaded {
-        is_done: false,
-        bytes: 0,
-    };
-
-    // What keeps the file from being read.
-    fn failed(err: &impl Print, name: &[u8], why: io::Error) -> io::Result<Loaded>
-        ensures { IfOk result (λ loaded. loaded.bytes ≡ 0) }
-    {
-        err.write_all(name)?;
-        err.write_all(b": ")?;
-        say_why(err, why)?;
-        err.write_all(b"\n")?;
-        arguments::say_usage(err)?;
-        Ok(Loaded::FAILED)
+fn load_named<R: Files>(
+    rt: &R,
+    err: &impl Print,
+    path: &[u8],
+    buffer: &mut [u8],
+) -> io::Result<Option<usize>>
+    ensures prefix { IfOk result (λ loaded. IfSome loaded (λ n. IsPrefixLen n buffer.new)) }
+    ensures room { length buffer.new ≡ length buffer.old }
+{
+    match read_named(rt, path, buffer) {
+        Ok(n) => Ok(Some(n)),
+        Err(e) => {
+            say_failed(err, path, e)?;
+            Ok(None)
+        }
     }
+}
+
+// A path need not be text.
+fn say_failed(err: &impl Print, name: &[u8], why: io::Error) -> io::Result<()> {
+    err.write_all(name)?;
+    err.print(": ")?;
+    say_why(err, why)?;
+    err.print("\n")?;
+    arguments::say_usage(err)
 }
 
 // The system's words, without its number behind them.
@@ -59,44 +83,10 @@ fn say_why(err: &impl Print, why: io::Error) -> io::Result<()> {
     }
 }
 
-// What keeps the file from being read goes to standard error with the usage, under the argument's name if it is too long for a path. The one
-// error is that this could not be written; the buffer then keeps whatever was read.
-pub fn load<R: Env + Files>(
-    rt: &R,
-    err: &impl Print,
-    argument: u8,
-    name: &[u8],
-    buffer: &mut [u8],
-) -> io::Result<Loaded>
-    ensures prefix { IfOk result (λ loaded. IsPrefixLen loaded.bytes buffer.new) }
-    ensures room { length buffer.new ≡ length buffer.old }
-{
-    let mut path = [0u8; PATH_ROOM];
-    match rt.arg(argument as usize, &mut path) {
-        Ok(n) => load_named(rt, err, &path[..n], buffer),
-        Err(e) => Loaded::failed(err, name, no_path(e)),
-    }
-}
-
 fn no_path(e: FillError) -> io::Error {
     match e {
         FillError::NotPresent => io::Error::new(ErrorKind::InvalidInput, "Invalid argument"),
         FillError::TooLong => io::Error::new(ErrorKind::InvalidFilename, "File name too long"),
-    }
-}
-
-fn load_named<R: Files>(
-    rt: &R,
-    err: &impl Print,
-    path: &[u8],
-    buffer: &mut [u8],
-) -> io::Result<Loaded>
-    ensures prefix { IfOk result (λ loaded. IsPrefixLen loaded.bytes buffer.new) }
-    ensures room { length buffer.new ≡ length buffer.old }
-{
-    match open(rt, path) {
-        Ok(mut file) => load_open(err, &mut file, path, buffer),
-        Err(e) => Loaded::failed(err, path, e),
     }
 }
 
@@ -111,25 +101,16 @@ fn open<R: Files>(rt: &R, path: &[u8]) -> io::Result<R::File> {
     }
 }
 
-fn load_open(
-    err: &impl Print,
-    file: &mut impl Read,
-    path: &[u8],
-    buffer: &mut [u8],
-) -> io::Result<Loaded>
-    ensures prefix { IfOk result (λ loaded. IsPrefixLen loaded.bytes buffer.new) }
+fn read_named<R: Files>(rt: &R, path: &[u8], buffer: &mut [u8]) -> io::Result<usize>
+    ensures prefix { IfOk result (λ n. IsPrefixLen n buffer.new) }
     ensures room { length buffer.new ≡ length buffer.old }
 {
-    match read_full(file, buffer) {
-        Ok(bytes) => Ok(Loaded {
-            is_done: true,
-            bytes,
-        }),
-        Err(e) => Loaded::failed(err, path, e),
-    }
+    let mut file = open(rt, path)?;
+    read_full(&mut file, buffer)
 }
 
-// Reads until the buffer is full or the file ends. A full buffer does not show whether what follows can be read: one more read does.
+// Reads until the buffer is full or the file ends: by as many bytes as a read gives, so in no `for`, and std has no method that takes a
+// shorter file. A full buffer does not show whether what follows can be read: one more read does.
 fn read_full(file: &mut impl Read, buffer: &mut [u8]) -> io::Result<usize>
     ensures prefix { IfOk result (λ n. IsPrefixLen n buffer.new) }
     ensures room { length buffer.new ≡ length buffer.old }

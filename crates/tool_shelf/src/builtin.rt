@@ -4,8 +4,6 @@
 // held against each other.
 ghost use Rattle.std.specs.Prelude.{◌+◌, ◌≤◌, length};
 
-pub const ELEMENTS: u16 = 10;
-
 // 332 bytes, 16 for each element, and 32 for the name of each of five overall and ten individual elements.
 pub const LENGTH: usize = 972;
 
@@ -30,11 +28,7 @@ pub fn shelf() -> [u8; LENGTH] {
 fn put(s: &mut [u8; LENGTH], at: usize, part: &[u8])
     requires { at + length part.now ≤ 972 }
 {
-    let mut i = 0;
-    while i < part.len() {
-        s[at + i] = part[i];
-        i += 1;
-    }
+    s[at..at + part.len()].copy_from_slice(part);
 }
 
 // Generation code 7; logical identifier, vendor, product and revision; five types.

@@ -3,20 +3,21 @@ ghost use Rattle.std.specs.Prelude.{◌*◌, ◌≤◌, length};
 ghost use Rattle.shelf.specs.Limits.{element_place};
 
 use shelf::{elements, limits};
-use shelf_formed::Opened;
 use std::io;
 
 // The list of a well-formed shelf, in hexadecimal.
 pub fn show(rt: &impl Print, shelf: &[u8]) -> io::Result<()> {
     let mut list = [0u8; limits::LONGEST_WANTED_LIST];
     let n = put(shelf, &mut list);
-    tool_print::hex_lines(rt, &list, 4 * n as u32)
+    tool_print::hex_lines(rt, &list[..4 * n as usize])
 }
 
 // Puts the records of a well-formed shelf, where there is room for all, and tells how many.
-pub fn put(shelf: &[u8], list: &mut [u8]) -> u16 {
+pub fn put(shelf: &[u8], list: &mut [u8]) -> u16
+    ensures { 4 * result ≤ length list.new }
+{
     let opened = shelf_formed::open_shelf(shelf);
-    let Opened::Shelf(sizes) = opened else {
+    let Some(sizes) = opened else {
         return 0;
     };
     let n = sizes.elements;
@@ -32,9 +33,7 @@ fn put_records(shelf: &[u8], list: &mut [u8], n: u16)
     requires n_in_shelf { element_place n ≤ length shelf.now }
     requires n_in_list { 4 * n ≤ length list.old }
 {
-    let mut j: u16 = 0;
-    while j < n {
+    for j in 0..n {
         bits::put_four(list, 4 * j as u32, elements::settings_at(shelf, j));
-        j += 1;
     }
 }

@@ -1,18 +1,16 @@
--- Where the names of a shelf stand: in its block. Assumes nothing.
+-- What the sizes of a well-formed shelf are bounded by. Assumes nothing.
 use mathlib.Core.Path.{◌≡◌}
 use mathlib.Core.Bool.{true}
 use mathlib.Core.List.{List}
 use Prim.Native.Nat.{ℕ, ◌+◌, ◌<◌, ◌≤◌}
 use native.Mathlib.Omega.{arith}
-use lib.ListN.{length}
 use borrow.Author.Tests.{leb-true}
-use Rattle.shelf.specs.Limits.{most_types, most_elements, most_text, name_place, HasTypes}
+use Rattle.shelf.specs.Limits.{most_types, most_elements}
 use Rattle.shelf.specs.Types.{types_of, elements_of, before}
 use Rattle.shelf.proofs.ElementsBefore.{before_up}
 use Rattle.shelf_formed.specs.Formed.{well_formed}
 use Rattle.shelf_formed.proofs.FormedShelf.{in_head, few_types, few_elements}
 use Rattle.shelf_formed.proofs.ElementTypes.{front_formed_lem}
-use Rattle.shelf_formed.proofs.ElementPut.{length-formed}
 
 module _ (s : List ℕ) (w : well_formed s ≡ true) where
   pub types_few : types_of s ≤ most_types
@@ -23,13 +21,6 @@ module _ (s : List ℕ) (w : well_formed s ≡ true) where
 
   pub some_type : 0 < types_of s
   some_type = leb-true 1 (types_of s) (in_head s (front_formed_lem s w)).0
-
-  pub types_there : HasTypes s
-  types_there = omega (arith, length-formed s w)
-
-  -- a name for each type and each element
-  pub name_room : (i : ℕ) → i < types_of s + elements_of s → name_place (elements_of s) i + most_text ≤ length s
-  name_room i l = omega (arith, length-formed s w, l)
 
   -- the overall element of a type has as many names before its own as there are types and elements before it
   pub overall_below : (t : ℕ) → t < types_of s → before s t + t < types_of s + elements_of s

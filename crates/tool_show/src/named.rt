@@ -10,15 +10,14 @@ use descriptor_page::writing;
 use descriptor_record::reading;
 use page::slots;
 use page::slots::SlotRun;
-use refusals::Tested;
 use shelf::types;
-use shelf_formed::Opened;
 use std::io;
+use tool_print::Quoted;
 
 // The record of a page for this shelf.
 pub fn tell_record(rt: &impl Print, shelf: &[u8], names: &[u8; reading::LENGTH]) -> io::Result<()> {
     let counted = page::testing::shelf_slots(shelf);
-    let Tested::Slots(n) = counted else {
+    let Ok(n) = counted else {
         return Ok(());
     };
     tell_entries(rt, shelf, names, n)
@@ -34,11 +33,9 @@ fn tell_entries(
     requires n_value { n ≡ slots_of shelf.now }
 {
     let mut run = slots::first_run();
-    let mut i: u16 = 0;
-    while i < n {
+    for i in 0..n {
         run = slots::run_to(shelf, run, i);
         tell_entry(rt, names, run, i)?;
-        i += 1;
     }
     Ok(())
 }
@@ -55,19 +52,14 @@ fn tell_entry(
     requires i_bound { i < most_types + most_elements }
 {
     place::say_slot(rt, run, i)?;
-    words::say_name(
-        rt,
-        b": \"",
-        names,
-        writing::name_at(reading::FIRST_ENTRY, i),
-    )?;
-    tool_print::text(rt, b"\n")
+    let at = writing::name_at(reading::FIRST_ENTRY, i);
+    println!(rt; ": {}", Quoted(words::name_at(names, at)))
 }
 
 // Element j with its type, if there are so many.
 pub fn tell_element(rt: &impl Print, shelf: &[u8], j: u32) -> io::Result<()> {
     let opened = shelf_formed::open_shelf(shelf);
-    let Opened::Shelf(sizes) = opened else {
+    let Some(sizes) = opened else {
         return Ok(());
     };
     if j < sizes.elements as u32 {
@@ -77,10 +69,9 @@ pub fn tell_element(rt: &impl Print, shelf: &[u8], j: u32) -> io::Result<()> {
 }
 
 fn say_run(rt: &impl Print, run: types::Run, j: u32) -> io::Result<()> {
-    let kind = run.kind;
-    tool_print::labelled(rt, b"element ", j as u64)?;
-    tool_print::text(rt, b": ")?;
-    words::say_kind(rt, kind)?;
-    tool_print::labelled(rt, b", type ", run.number as u64)?;
-    tool_print::text(rt, b"\n")
+    println!(rt;
+        "element {j}: {}, type {}",
+        words::kind_name(run.kind),
+        run.number
+    )
 }

@@ -7,7 +7,6 @@ ghost use Rattle.page.specs.Slots.{slots_of, slot_run};
 use crate::words;
 use page::slots;
 use page::slots::SlotRun;
-use refusals::Tested;
 use shelf::limits;
 use std::io;
 
@@ -20,9 +19,9 @@ pub fn tell(rt: &impl Print, shelf: &[u8], at: u32) -> io::Result<()> {
     if FIRST <= at {
         let k = at - FIRST;
         say_element(rt, shelf, k / 4)?;
-        tool_print::labelled(rt, b", byte ", (k % 4) as u64)?;
+        print!(rt; ", byte {}", k % 4)?;
     }
-    tool_print::text(rt, b"\n")
+    rt.print("\n")
 }
 
 // On a page of names.
@@ -33,14 +32,14 @@ pub fn tell_on_names(rt: &impl Print, shelf: &[u8], page: &[u8], at: u32) -> io:
         say_element(rt, shelf, spot.descriptor as u32)?;
         say_part(rt, spot.byte)?;
     }
-    tool_print::text(rt, b"\n")
+    rt.print("\n")
 }
 
 // Of the head only byte 1 can offend.
 fn say_byte(rt: &impl Print, at: u32) -> io::Result<()> {
-    tool_print::labelled(rt, b"byte ", at as u64)?;
+    print!(rt; "byte {at}")?;
     if at < FIRST {
-        tool_print::text(rt, b": reserved bits of the page itself")?;
+        rt.print(": reserved bits of the page itself")?;
     }
     Ok(())
 }
@@ -57,20 +56,18 @@ fn spot_of(page: &[u8], at: u32) -> Spot
     requires { 8 ≤ at }
 {
     let mut start = FIRST;
-    let mut i: u16 = 0;
-    while i < limits::MOST_SLOTS {
+    for descriptor in 0..limits::MOST_SLOTS {
         let end = start + 4 + declared(page, start);
         if at < end {
             return Spot {
-                descriptor: i,
+                descriptor,
                 byte: at - start,
             };
         }
         start = end;
-        i += 1;
     }
     Spot {
-        descriptor: i,
+        descriptor: limits::MOST_SLOTS,
         byte: 0,
     }
 }
@@ -89,24 +86,21 @@ fn declared(page: &[u8], start: u32) -> u32
 
 // Byte k of a descriptor.
 fn say_part(rt: &impl Print, k: u32) -> io::Result<()> {
-    if k < 2 {
-        tool_print::labelled(rt, b", reserved byte ", k as u64)
-    } else if k < 4 {
-        tool_print::text(rt, b", length of the name")
-    } else {
-        tool_print::labelled(rt, b", byte ", (k - 4) as u64)?;
-        tool_print::text(rt, b" of the name")
+    match k {
+        0 | 1 => print!(rt; ", reserved byte {k}"),
+        2 | 3 => rt.print(", length of the name"),
+        _ => print!(rt; ", byte {} of the name", k - 4),
     }
 }
 
 // After a colon, the element that slot i is for, if there are so many.
 fn say_element(rt: &impl Print, shelf: &[u8], i: u32) -> io::Result<()> {
     let counted = page::testing::shelf_slots(shelf);
-    let Tested::Slots(n) = counted else {
+    let Ok(n) = counted else {
         return Ok(());
     };
     if i < n as u32 {
-        tool_print::text(rt, b": ")?;
+        rt.print(": ")?;
         say_slot(rt, run_of(shelf, i as u16), i as u16)?;
     }
     Ok(())
@@ -119,10 +113,8 @@ fn run_of(shelf: &[u8], i: u16) -> SlotRun
     ensures { result ≡ slot_run shelf.now i }
 {
     let mut run = slots::run_to(shelf, slots::first_run(), 0);
-    let mut j: u16 = 0;
-    while j < i {
-        j += 1;
-        run = slots::run_to(shelf, run, j);
+    for j in 0..i {
+        run = slots::run_to(shelf, run, j + 1);
     }
     run
 }
@@ -134,11 +126,10 @@ pub fn say_slot(rt: &impl Print, run: SlotRun, i: u16) -> io::Result<()>
     requires types_bound { run.types ≤ i + num run.overall }
 {
     let slot = slots::slot_in(run, i);
-    let kind = slot.kind;
-    words::say_kind(rt, kind)?;
+    let kind = words::kind_name(slot.kind);
     if slot.overall {
-        tool_print::labelled(rt, b", overall element of type ", (run.types - 1) as u64)
+        print!(rt; "{kind}, overall element of type {}", run.types - 1)
     } else {
-        tool_print::labelled(rt, b", element ", slot.first as u64)
+        print!(rt; "{kind}, element {}", slot.first)
     }
 }

@@ -6,25 +6,36 @@ ghost use Rattle.shelf.specs.Limits.{most_text, HasElement};
 
 use element::settings::Settings;
 use element::types::Kind;
+use element_status::ENTRY;
 use names::name;
 use shelf::elements;
+use std::fmt::Display;
 use std::io;
+use tool_print::{Degrees, Flags, Hundredths, Quoted};
 
 // The name of a type.
-pub fn say_kind(rt: &impl Print, kind: Kind) -> io::Result<()> {
+pub fn kind_name(kind: Kind) -> &'static str {
     match kind {
-        Kind::Cooling => tool_print::text(rt, b"Cooling"),
-        Kind::Temperature => tool_print::text(rt, b"Temperature Sensor"),
-        Kind::Voltage => tool_print::text(rt, b"Voltage Sensor"),
-        Kind::Current => tool_print::text(rt, b"Current Sensor"),
+        Kind::Cooling => "Cooling",
+        Kind::Temperature => "Temperature Sensor",
+        Kind::Voltage => "Voltage Sensor",
+        Kind::Current => "Current Sensor",
     }
 }
 
-// The words, which end with a quotation mark, the name at a place, and the closing mark.
-pub fn say_name(rt: &impl Print, words: &[u8], s: &[u8], at: u32) -> io::Result<()>
+// The n bytes from a place on.
+pub fn part(s: &[u8], at: u32, n: u32) -> &[u8]
+    requires { at + n ≤ length s.now }
+{
+    let start = at as usize;
+    &s[start..start + n as usize]
+}
+
+// The name that stands at a place.
+pub fn name_at(s: &[u8], at: u32) -> &[u8]
     requires { at + most_text ≤ length s.now }
 {
-    tool_print::quoted_at(rt, words, s, at, name::length_at(s, at))
+    part(s, at, name::length_at(s, at))
 }
 
 // Element j, whose name stands at a place.
@@ -36,158 +47,130 @@ pub fn show(rt: &impl Print, shelf: &[u8], kind: Kind, j: u16, at: u32) -> io::R
     let nominal = elements::nominal_at(shelf, j);
     let t = elements::thresholds_at(shelf, j);
     let stored = Settings::of(kind, elements::settings_at(shelf, j));
-    tool_print::labelled(rt, b"  element ", j as u64)?;
-    say_name(rt, b" \"", shelf, at)?;
-    tool_print::labelled(rt, b": code ", x[0] as u64)?;
-    tool_print::text(rt, b", ")?;
+    print!(rt;
+        "  element {j} {}: code {}, ",
+        Quoted(name_at(shelf, at)),
+        x[0]
+    )?;
     match kind {
-        Kind::Cooling => say_fan(rt, x, stored),
-        Kind::Temperature => say_temperature(rt, x, t, stored),
-        Kind::Voltage => say_voltage(rt, x, nominal, t, stored),
-        Kind::Current => say_current(rt, x, nominal, t, stored),
-    }?;
-    tool_print::text(rt, b"\n")
+        Kind::Cooling => {
+            say_fan(rt, x, stored.speed)?;
+            say_flags(rt, x, x[7], stored.flags3)?;
+        }
+        Kind::Temperature => {
+            say_temperature(rt, x)?;
+            say_flags(rt, x, x[5], stored.flags1)?;
+            say_thresholds(rt, t, |limit| Degrees(limit))?;
+        }
+        Kind::Voltage => {
+            say_voltage(rt, x, nominal)?;
+            say_flags(rt, x, x[5], stored.flags1)?;
+            say_percent_thresholds(rt, t)?;
+        }
+        Kind::Current => {
+            say_current(rt, x, nominal)?;
+            say_flags(rt, x, x[5], stored.flags1)?;
+            say_percent_thresholds(rt, t)?;
+        }
+    }
+    rt.print("\n")
 }
 
-fn say_fan(rt: &impl Print, x: [u8; element_status::ENTRY], stored: Settings) -> io::Result<()> {
-    tool_print::number(rt, number(x[5], x[6]) as u64 * 10)?;
-    tool_print::text(rt, b" rpm")?;
-    tool_print::flag(rt, x[8] == 1, b"ON")?;
-    tool_print::flag(rt, x[9] == 1, b"OFF")?;
-    say_speed(rt, x[10], stored.speed)?;
-    say_flags(rt, x, x[7], stored.flags3)
+fn say_fan(rt: &impl Print, x: [u8; ENTRY], stored: u8) -> io::Result<()> {
+    let rpm = u32::from(number(x[5], x[6])) * 10;
+    print!(rt;
+        "{rpm} rpm{}",
+        Flags(&[(x[8] == 1, "ON"), (x[9] == 1, "OFF")])
+    )?;
+    say_speed(rt, x[10], stored)
 }
 
 // The speed code, and the stored SPEED where that is another.
 fn say_speed(rt: &impl Print, shown: u8, stored: u8) -> io::Result<()> {
-    tool_print::labelled(rt, b", speed ", shown as u64)?;
+    print!(rt; ", speed {shown}")?;
     if stored != shown {
-        tool_print::labelled(rt, b" (stored ", stored as u64)?;
-        tool_print::text(rt, b")")?;
+        print!(rt; " (stored {stored})")?;
     }
     Ok(())
 }
 
-fn say_temperature(
-    rt: &impl Print,
-    x: [u8; element_status::ENTRY],
-    t: [u8; 4],
-    stored: Settings,
-) -> io::Result<()> {
-    say_reading_in_degrees(rt, x[6] as u16)?;
-    tool_print::flag(rt, x[7] == 1, b"OT FAILURE")?;
-    tool_print::flag(rt, x[8] == 1, b"OT WARNING")?;
-    tool_print::flag(rt, x[9] == 1, b"UT FAILURE")?;
-    tool_print::flag(rt, x[10] == 1, b"UT WARNING")?;
-    say_flags(rt, x, x[5], stored.flags1)?;
-    say_degree_thresholds(rt, t)
+fn say_temperature(rt: &impl Print, x: [u8; ENTRY]) -> io::Result<()> {
+    match x[6] {
+        0 => rt.print("no reading"),
+        reading => print!(rt; "{} degrees C", Degrees(reading)),
+    }?;
+    rt.print(Flags(&[
+        (x[7] == 1, "OT FAILURE"),
+        (x[8] == 1, "OT WARNING"),
+        (x[9] == 1, "UT FAILURE"),
+        (x[10] == 1, "UT WARNING"),
+    ]))
 }
 
-fn say_voltage(
-    rt: &impl Print,
-    x: [u8; element_status::ENTRY],
-    nominal: u16,
-    t: [u8; 4],
-    stored: Settings,
-) -> io::Result<()> {
-    say_of_nominal(rt, number(x[10], x[11]), nominal, b" V")?;
-    tool_print::flag(rt, x[6] == 1, b"WARN OVER")?;
-    tool_print::flag(rt, x[7] == 1, b"WARN UNDER")?;
-    tool_print::flag(rt, x[8] == 1, b"CRIT OVER")?;
-    tool_print::flag(rt, x[9] == 1, b"CRIT UNDER")?;
-    say_flags(rt, x, x[5], stored.flags1)?;
-    say_percent_thresholds(rt, t)
+fn say_voltage(rt: &impl Print, x: [u8; ENTRY], nominal: u16) -> io::Result<()> {
+    say_of_nominal(rt, number(x[10], x[11]), nominal, "V")?;
+    rt.print(Flags(&[
+        (x[6] == 1, "WARN OVER"),
+        (x[7] == 1, "WARN UNDER"),
+        (x[8] == 1, "CRIT OVER"),
+        (x[9] == 1, "CRIT UNDER"),
+    ]))
 }
 
-fn say_current(
-    rt: &impl Print,
-    x: [u8; element_status::ENTRY],
-    nominal: u16,
-    t: [u8; 4],
-    stored: Settings,
-) -> io::Result<()> {
-    say_of_nominal(rt, number(x[8], x[9]), nominal, b" A")?;
-    tool_print::flag(rt, x[6] == 1, b"WARN OVER")?;
-    tool_print::flag(rt, x[7] == 1, b"CRIT OVER")?;
-    say_flags(rt, x, x[5], stored.flags1)?;
-    say_percent_thresholds(rt, t)
+fn say_current(rt: &impl Print, x: [u8; ENTRY], nominal: u16) -> io::Result<()> {
+    say_of_nominal(rt, number(x[8], x[9]), nominal, "A")?;
+    rt.print(Flags(&[(x[6] == 1, "WARN OVER"), (x[7] == 1, "CRIT OVER")]))
 }
 
 // A number of two bytes of an entry.
 fn number(high: u8, low: u8) -> u16 {
-    high as u16 * 256 + low as u16
+    u16::from_be_bytes([high, low])
 }
 
-fn say_reading_in_degrees(rt: &impl Print, reading: u16) -> io::Result<()> {
-    if reading == 0 {
-        tool_print::text(rt, b"no reading")
-    } else {
-        tool_print::degrees(rt, reading)?;
-        tool_print::text(rt, b" degrees C")
-    }
+fn say_of_nominal(rt: &impl Print, reading: u16, nominal: u16, unit: &str) -> io::Result<()> {
+    print!(rt;
+        "{} {unit} of nominal {} {unit}",
+        Hundredths(reading),
+        Hundredths(nominal)
+    )
 }
 
-fn say_of_nominal(rt: &impl Print, reading: u16, nominal: u16, unit: &[u8]) -> io::Result<()> {
-    tool_print::signed_hundredths(rt, reading)?;
-    tool_print::text(rt, unit)?;
-    tool_print::text(rt, b" of nominal ")?;
-    tool_print::signed_hundredths(rt, nominal)?;
-    tool_print::text(rt, unit)
-}
-
-// The flags that every type here has; each shows IDENT first, and FAIL at a place of its own. Of the stored flags, FAIL is bit 6.
-fn say_flags(
-    rt: &impl Print,
-    x: [u8; element_status::ENTRY],
-    fail: u8,
-    stored: u8,
-) -> io::Result<()> {
-    tool_print::flag(rt, x[1] == 1, b"PRDFAIL")?;
-    tool_print::flag(rt, x[2] == 1, b"DISABLED")?;
-    tool_print::flag(rt, x[3] == 1, b"SWAP")?;
-    tool_print::flag(rt, x[4] == 1, b"IDENT")?;
-    say_fail(rt, fail == 1, stored / 64 % 2 == 1)
-}
-
-// FAIL where it shows, and that it is not stored where it shows all the same.
-fn say_fail(rt: &impl Print, is_shown: bool, is_stored: bool) -> io::Result<()> {
-    tool_print::flag(rt, is_shown, b"FAIL")?;
-    if is_shown & !is_stored {
-        tool_print::text(rt, b" (not stored)")?;
+// The flags that every type here has; each shows IDENT first, and FAIL at a place of its own. Of the stored flags, FAIL is bit 6, and
+// where it is not stored and shows all the same, that is said.
+fn say_flags(rt: &impl Print, x: [u8; ENTRY], fail: u8, stored: u8) -> io::Result<()> {
+    rt.print(Flags(&[
+        (x[1] == 1, "PRDFAIL"),
+        (x[2] == 1, "DISABLED"),
+        (x[3] == 1, "SWAP"),
+        (x[4] == 1, "IDENT"),
+        (fail == 1, "FAIL"),
+    ]))?;
+    if fail == 1 && stored / 64 % 2 == 0 {
+        rt.print(" (not stored)")?;
     }
     Ok(())
 }
 
-fn say_degree_thresholds(rt: &impl Print, t: [u8; 4]) -> io::Result<()> {
-    tool_print::text(rt, b", thresholds")?;
-    say_degree_limit(rt, t[0])?;
-    say_degree_limit(rt, t[1])?;
-    say_degree_limit(rt, t[2])?;
-    say_degree_limit(rt, t[3])
-}
-
-fn say_percent_thresholds(rt: &impl Print, t: [u8; 4]) -> io::Result<()> {
-    tool_print::text(rt, b", thresholds")?;
-    say_percent_limit(rt, t[0])?;
-    say_percent_limit(rt, t[1])?;
-    say_percent_limit(rt, t[2])?;
-    say_percent_limit(rt, t[3])?;
-    tool_print::text(rt, b" (half percent)")
-}
-
-fn say_degree_limit(rt: &impl Print, limit: u8) -> io::Result<()> {
-    if limit == 0 {
-        tool_print::text(rt, b" -")
-    } else {
-        tool_print::text(rt, b" ")?;
-        tool_print::degrees(rt, limit as u16)
+// Each limit in the form that it is told in, or a dash where there is none.
+fn say_thresholds<D: Display + Drop, F: Fn(u8) -> D>(
+    rt: &impl Print,
+    limits: [u8; 4],
+    told: F,
+) -> io::Result<()>
+    requires { F.IsAlwaysCallable told }
+{
+    rt.print(", thresholds")?;
+    for limit in limits {
+        if limit == 0 {
+            rt.print(" -")?;
+        } else {
+            print!(rt; " {}", told(limit))?;
+        }
     }
+    Ok(())
 }
 
-fn say_percent_limit(rt: &impl Print, limit: u8) -> io::Result<()> {
-    if limit == 0 {
-        tool_print::text(rt, b" -")
-    } else {
-        tool_print::labelled(rt, b" ", limit as u64)
-    }
+fn say_percent_thresholds(rt: &impl Print, limits: [u8; 4]) -> io::Result<()> {
+    say_thresholds(rt, limits, |limit| limit)?;
+    rt.print(" (half percent)")
 }

@@ -9,6 +9,3 @@ returns-then-are_within c = let s = c.args in
     let e = s.e in
     let h = known_four e (search rules) (search rules) (search rules) (search rules) in
     outside_none s.mask e (omega arith) h (sym c.are_within.ensures ∙ c.if-are_within.true)
-
-pub returns : goal.returns
-returns c = c.first_of.ensures ∙ rw c.four_of-m.ensures

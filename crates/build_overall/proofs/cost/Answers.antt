@@ -17,12 +17,6 @@ loop-j-init c = let s = c.args in let h : Fits w8 (get_or s.overall 0 0) = searc
 pub overflow_add-n : goal.overflow_add-n
 overflow_add-n c = let l = c.loop-j in let h : Fits w16 l.j = search rules in omega (arith, bool_small (not c.brings-done.result), l.invariant.2, h)
 
-pub overflow_add-j : goal.overflow_add-j
-overflow_add-j c = omega arith
-
-pub loop-j-smaller : goal.loop-j-smaller
-loop-j-smaller c = omega arith
-
 pub loop-j-preserved : goal.loop-j-preserved
 loop-j-preserved c = let s = c.args in
     let l = c.loop-j in

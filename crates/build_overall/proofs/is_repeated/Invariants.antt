@@ -8,6 +8,3 @@ use Rattle.build_overall.proofs.is_repeated.Given as goal
 
 abbrev pub invariant-loop-i : goal.invariant-loop-i
 invariant-loop-i l = (l.first ≤ l.i) × (l.i - l.first ≤ l.j - l.first) × (all_below (fails (like l.wanted l.first l.j)) (l.i - l.first) ≡ true)
-
-abbrev pub decreases-loop-i : goal.decreases-loop-i
-decreases-loop-i l = l.j - l.i

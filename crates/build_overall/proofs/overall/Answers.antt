@@ -12,12 +12,6 @@ loop-j-init c = let s = c.args in (omega arith, omega arith, first_best s.shelf.
 pub consider-best-requires : goal.consider-best-requires
 consider-best-requires c = let l = c.loop-j in record { has_wishes = c.requires; first_le_j = (l.invariant.0, c.loop-j-test.true); best_value = l.invariant.2 }
 
-pub overflow_add-j : goal.overflow_add-j
-overflow_add-j c = omega arith
-
-pub loop-j-smaller : goal.loop-j-smaller
-loop-j-smaller c = omega arith
-
 pub loop-j-preserved : goal.loop-j-preserved
 loop-j-preserved c = let s = c.args in let l = c.loop-j in (omega (arith, l.invariant.0), omega (arith, l.invariant.0, l.invariant.1, c.loop-j-test.true), next_best s.shelf.now s.wanted.now s.at l.j l.invariant.0 c.consider-best.ensures)
 

@@ -5,12 +5,6 @@ use Rattle.build_overall.proofs.try_record.Goals as goal
 pub loop-v-init : goal.loop-v-init
 loop-v-init c = (omega arith, c.requires.best_value)
 
-pub overflow_add-v : goal.overflow_add-v
-overflow_add-v c = omega arith
-
-pub loop-v-smaller : goal.loop-v-smaller
-loop-v-smaller c = omega arith
-
 pub loop-v-preserved : goal.loop-v-preserved
 loop-v-preserved c = let s = c.args in let l = c.loop-v in (omega arith, upto_next s.shelf.now s.wanted.now s.at s.x s.best.overall l.v l.invariant.1 c.tried.ensures c.try_one-best.ensures)
 

@@ -12,4 +12,4 @@ test_long-requires c = frame_there c.args.collector.now c.first-page.ensures
 pub returns : goal.returns
 returns c = let s = c.args in
     long_ended s.collector.now s.shelf.now s.code c.count-n.ensures (omega (arith, c.if-n-le-MOST_KEPT.false)) c.first-page.ensures
-    c.test_long.ensures c.of.ensures
+    c.test_long.ensures c.of_page.ensures

@@ -11,4 +11,4 @@ returns-then-code-eq-CODE-2 c = let s = c.args in
 
 pub returns-else-code-eq-CODE-2 : goal.returns-else-code-eq-CODE-2
 returns-else-code-eq-CODE-2 c = let s = c.args in
-    as_other s.code s.shelf.now s.page.now c.if-code-eq-CODE.false c.if-code-eq-CODE-2.false c.test_other.ensures c.of.ensures
+    as_other s.code s.shelf.now s.page.now c.if-code-eq-CODE.false c.if-code-eq-CODE-2.false c.test_other.ensures c.of_page.ensures

@@ -1,10 +1,6 @@
 use native.Mathlib.Omega.{arith}
-use Rattle.collector.proofs.Putting.{room_for, kept_told, none_kept}
+use Rattle.collector.proofs.Putting.{kept_told, none_kept}
 use Rattle.collector.proofs.keep.Goals as goal
-
-pub copy-requires : goal.copy-requires
-copy-requires c = let l = room_for c.args.collector.now c.args.n c.args.chunk.now c.requires (omega arith) c.at_most-fits.ensures in
-    record { n_in_bounds = omega (arith, l.0); n_in_bounds_2 = omega (arith, l.1) }
 
 pub returns-then-n-lt-MOST_KEPT : goal.returns-then-n-lt-MOST_KEPT
 returns-then-n-lt-MOST_KEPT c = let s = c.args in

@@ -22,12 +22,6 @@ returns-then-byte_at-ne0 c = let s = c.args.shelf.now in
     let no = ne_eqb c.byte_at.result 0 c.if-byte_at-ne0.true in
     sym (below_fails (text_byte_formed s t) most_text l.i c.loop-i-test.true (sym e ∙ no))
 
-pub overflow_add-i : goal.overflow_add-i
-overflow_add-i c = omega arith
-
-pub loop-i-smaller : goal.loop-i-smaller
-loop-i-smaller c = omega arith
-
 pub loop-i-preserved : goal.loop-i-preserved
 loop-i-preserved c = let s = c.args.shelf.now in
     let t = c.args.t in

@@ -19,12 +19,6 @@ returns-then-not-is_printable c = let s = c.args.shelf.now in
     let e = byte_printable s t c.requires.n_value i below c.text_place.ensures c.byte_at-b.ensures in
     sym (below_fails (text_byte_formed s t) c.args.n i below (sym e ∙ sym c.is_printable.ensures ∙ c.if-not-is_printable.true))
 
-pub overflow_add-i : goal.overflow_add-i
-overflow_add-i c = omega arith
-
-pub loop-i-smaller : goal.loop-i-smaller
-loop-i-smaller c = omega arith
-
 pub loop-i-preserved : goal.loop-i-preserved
 loop-i-preserved c = let s = c.args.shelf.now in
     let t = c.args.t in

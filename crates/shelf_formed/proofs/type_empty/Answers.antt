@@ -22,12 +22,6 @@ returns-then-byte_at-ne0 c = let q = c.args in
     let no = ne_eqb (get_or s (type_place q.t + i) 0) 0 (rw (c.byte_at.ensures, c.type_place.ensures) at c.if-byte_at-ne0.true) in
     sym (below_fails (type_byte_empty s q.t) type_size i c.loop-i-test.true no)
 
-pub overflow_add-i : goal.overflow_add-i
-overflow_add-i c = omega arith
-
-pub loop-i-smaller : goal.loop-i-smaller
-loop-i-smaller c = omega arith
-
 pub loop-i-preserved : goal.loop-i-preserved
 loop-i-preserved c = let q = c.args in
     let s = q.shelf.now in

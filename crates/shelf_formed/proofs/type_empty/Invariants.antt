@@ -1,6 +1,6 @@
 use mathlib.Core.Path.{◌≡◌}
 use mathlib.Core.Bool.{true}
-use Prim.Native.Nat.{◌≤◌, ◌-◌}
+use Prim.Native.Nat.{◌≤◌}
 use Rattle.bits.specs.Choice.{all_below}
 use Rattle.shelf_formed.specs.Formed.{type_byte_empty}
 use Rattle.shelf.specs.Limits.{type_size}
@@ -8,6 +8,3 @@ use Rattle.shelf_formed.proofs.type_empty.Given as goal
 
 abbrev pub invariant-loop-i : goal.invariant-loop-i
 invariant-loop-i l = (l.i ≤ type_size) × (all_below (type_byte_empty l.shelf l.t) l.i ≡ true)
-
-abbrev pub decreases-loop-i : goal.decreases-loop-i
-decreases-loop-i l = type_size - l.i

@@ -12,12 +12,6 @@ pub returns-then-not-slot_formed : goal.returns-then-not-slot_formed
 unfolding types_formed
 returns-then-not-slot_formed c = let a = c.args in sym (below_fails (slot_formed a.shelf.now a.n) most_types c.loop-t.t c.loop-t-test.true (sym c.slot_formed.ensures ∙ c.if-not-slot_formed.true))
 
-pub overflow_add-t : goal.overflow_add-t
-overflow_add-t c = omega arith
-
-pub loop-t-smaller : goal.loop-t-smaller
-loop-t-smaller c = omega arith
-
 pub loop-t-preserved : goal.loop-t-preserved
 loop-t-preserved c = let a = c.args in (omega arith, below_next (slot_formed a.shelf.now a.n) c.loop-t.t c.loop-t.invariant.1 (sym c.slot_formed.ensures ∙ c.if-not-slot_formed.false))
 

@@ -5,12 +5,6 @@ use Rattle.shelf_status.proofs.worst.Goals as goal
 pub loop-j-init : goal.loop-j-init
 loop-j-init c = let s = c.args in (omega arith, omega arith, none_seen s.shelf.now s.kind s.first)
 
-pub overflow_add-j : goal.overflow_add-j
-overflow_add-j c = omega arith
-
-pub loop-j-smaller : goal.loop-j-smaller
-loop-j-smaller c = omega arith
-
 pub loop-j-preserved : goal.loop-j-preserved
 loop-j-preserved c = let s = c.args in let l = c.loop-j in (omega arith, omega arith, one_more s.shelf.now s.kind s.first l.j l.invariant.0 l.invariant.2 c.code_at.ensures c.worse-code.ensures)
 

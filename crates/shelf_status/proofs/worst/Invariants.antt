@@ -5,6 +5,3 @@ use Rattle.shelf_status.proofs.worst.Given as goal
 
 abbrev pub invariant-loop-j : goal.invariant-loop-j
 invariant-loop-j l = (l.first ≤ l.j) × (l.j - l.first ≤ l.end - l.first) × (l.code ≡ worst_of (has l.shelf l.kind l.first (l.j - l.first)))
-
-abbrev pub decreases-loop-j : goal.decreases-loop-j
-decreases-loop-j l = l.end - l.j

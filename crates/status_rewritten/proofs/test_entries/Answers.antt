@@ -9,7 +9,7 @@ returns-in_default c = let s = c.args in
 
 pub returns-in_default-flags : goal.returns-in_default-flags
 returns-in_default-flags c = let s = c.args in
-    other_bits s.configuration.now s.fields.now s.n c.test_count-counted.ensures c.in-Accepted.is
+    other_bits s.configuration.now s.fields.now s.n c.test_count-counted.ensures c.in-Ok.is
     c.test_bits-flags.ensures c.in_default-flags.is
 
 pub test_fields-requires : goal.test_fields-requires
@@ -18,5 +18,5 @@ test_fields-requires c = let b = slots_bound c.args.configuration.now c.requires
 
 pub returns : goal.returns
 returns c = let s = c.args in
-    fields_last s.configuration.now s.fields.now s.n c.test_count-counted.ensures c.in-Accepted.is
-    c.test_bits-flags.ensures c.in-Accepted-flags.is c.test_fields.ensures
+    fields_last s.configuration.now s.fields.now s.n c.test_count-counted.ensures c.in-Ok.is
+    c.test_bits-flags.ensures c.in-Ok-flags.is c.test_fields.ensures

@@ -13,8 +13,8 @@ use Rattle.threshold_rows.proofs.scan.Goals as goal
 pub loop-i-init : goal.loop-i-init
 loop-i-init c = (omega arith, c.first_run-run.ensures, refl, refl, refl)
 
-pub run_to-here-requires : goal.run_to-here-requires
-run_to-here-requires c = record { has_front = c.requires.0; i_bound = omega (arith, c.requires.1, c.loop-i-test.true); run_value = c.loop-i.invariant.1 }
+pub run_to-run-requires : goal.run_to-run-requires
+run_to-run-requires c = record { has_front = c.requires.0; i_bound = omega (arith, c.requires.1, c.loop-i-test.true); run_value = c.loop-i.invariant.1 }
 
 pub overflow_cast-result : goal.overflow_cast-result
 overflow_cast-result c = omega arith
@@ -25,23 +25,17 @@ overflow_add-result c = omega (arith, c.row_place.ensures)
 pub returns-then-k-lt4 : goal.returns-then-k-lt4
 returns-then-k-lt4 c = let s = c.args in
     let l = c.loop-i in
-    let h = row_offends s.configuration.now s.block.now s.start l.i c.run_to-here.ensures
+    let h = row_offends s.configuration.now s.block.now s.start l.i c.run_to-run.ensures
     c.row_at-e.ensures c.row_offending-k.ensures in
     refused_row s.configuration.now s.block.now s.start s.n l.i c.loop-i-test.true
     l.invariant.2 h c.if-k-lt4.true c.row_place.ensures
-
-pub overflow_add-i : goal.overflow_add-i
-overflow_add-i c = omega arith
-
-pub loop-i-smaller : goal.loop-i-smaller
-loop-i-smaller c = omega arith
 
 pub loop-i-preserved : goal.loop-i-preserved
 loop-i-preserved c = let s = c.args in
     let x = s.configuration.now in
     let b = s.block.now in
     let l = c.loop-i in
-    let r = c.run_to-here.ensures in
+    let r = c.run_to-run.ensures in
     let e = c.row_at-e.ensures in
     let k = row_offends x b s.start l.i r e c.row_offending-k.ensures in (
       omega arith,

@@ -9,5 +9,5 @@ returns-in_default c = let s = c.args in
 pub returns : goal.returns
 returns c = let s = c.args in
     record_last s.configuration.now s.fields.now in_record s.n c.scan-scanned.ensures
-    c.in-Rows.is
+    c.in-Ok.is
     c.test.ensures

@@ -1,38 +1,18 @@
-use mathlib.Core.Path.{refl, sym}
-use native.Mathlib.Omega.{arith}
+use Rattle.std.proofs.Common.{refl, sym, ◌∙◌, arith}
 use Rattle.bits.proofs.Logic.{pick_yes, pick_no}
-use Rattle.shelf.proofs.TypeRuns.{run_on}
-use Rattle.build_page.proofs.Loops.{reach_at, fails_at, passes_at, passes_all}
 use Rattle.build_page.specs.Page.{reachable}
 use Rattle.build_page.proofs.testing.test_reach.Goals as goal
 
-pub loop-j-init : goal.loop-j-init
-loop-j-init c = (omega arith, c.first_run-run.ensures, refl)
+pub all_hold-reached-requires : goal.all_hold-reached-requires
+all_hold-reached-requires c = record {
+  n_in_bounds = c.requires.n_in_bounds;
+  takes = λ j l. (omega (arith, c.requires.n_in_bounds, l), (omega (arith, c.requires.n_in_bounds_2, l), refl));
+}
 
-pub run_to-here-requires : goal.run_to-here-requires
-run_to-here-requires c = record { has_element = omega (arith, c.requires.n_in_bounds, c.loop-j-test.true); run_value = c.loop-j.invariant.1 }
-
-pub returns-then-not-in_reach : goal.returns-then-not-in_reach
-returns-then-not-in_reach c = let l = c.loop-j in
-    let s = c.args in
-    let h = reach_at s.shelf.now s.wanted.now l.j c.run_to-here.ensures c.settings_at.ensures c.settings_in.ensures c.in_reach.ensures in
-    sym (pick_no _ _ _ (fails_at (reachable s.shelf.now s.wanted.now) s.n l.j h c.loop-j-test.true (c.if-not-in_reach.true)))
-
-pub overflow_add-j : goal.overflow_add-j
-overflow_add-j c = omega arith
-
-pub loop-j-smaller : goal.loop-j-smaller
-loop-j-smaller c = omega arith
-
-pub loop-j-preserved : goal.loop-j-preserved
-loop-j-preserved c = let l = c.loop-j in
-    let s = c.args in
-    let h = reach_at s.shelf.now s.wanted.now l.j c.run_to-here.ensures c.settings_at.ensures c.settings_in.ensures c.in_reach.ensures in (
-      omega arith,
-      run_on s.shelf.now l.j c.run_to-here.ensures,
-      passes_at (reachable s.shelf.now s.wanted.now) s.n l.j h l.invariant.2 (c.if-not-in_reach.false),
-    )
+pub returns-then-not-reached : goal.returns-then-not-reached
+returns-then-not-reached c = let s = c.args in
+    sym (pick_no _ _ _ (sym (c.all_hold-reached.ensures (reachable s.shelf.now s.wanted.now) (λ j l b h. h.1)) ∙ c.if-not-reached.true))
 
 pub returns : goal.returns
 returns c = let s = c.args in
-    sym (pick_yes _ _ _ (passes_all (reachable s.shelf.now s.wanted.now) s.n c.loop-j.j (omega arith) c.loop-j.invariant.2))
+    sym (pick_yes _ _ _ (sym (c.all_hold-reached.ensures (reachable s.shelf.now s.wanted.now) (λ j l b h. h.1)) ∙ c.if-not-reached.false))

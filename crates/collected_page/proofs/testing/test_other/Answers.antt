@@ -7,8 +7,8 @@ returns-in_default c = let s = c.args in
 
 pub returns-in_default-size : goal.returns-in_default-size
 returns-in_default-size c = let s = c.args in
-    other_short s.shelf.now s.page.now c.shelf-formed.ensures c.in-Accepted.is c.test_size-size.ensures c.in_default-size.is
+    other_short s.shelf.now s.page.now c.shelf-formed.ensures c.in-Ok.is c.test_size-size.ensures c.in_default-size.is
 
 pub returns : goal.returns
 returns c = let s = c.args in
-    other_code s.shelf.now s.page.now c.shelf-formed.ensures c.in-Accepted.is c.test_size-size.ensures c.in-Accepted-size.is
+    other_code s.shelf.now s.page.now c.shelf-formed.ensures c.in-Ok.is c.test_size-size.ensures c.in-Ok-size.is

@@ -12,9 +12,6 @@ four_at-requires c = omega (arith, headers_in c.args.page.now c.requires.page_va
 pub copy-requires : goal.copy-requires
 copy-requires c = let h = headers_in c.args.page.now c.requires.page_value in record { n_in_bounds = omega arith; n_in_bounds_2 = omega arith }
 
-pub put_types-requires : goal.put_types-requires
-put_types-requires c = record { page_value = c.requires.page_value; has_types = omega (arith, c.requires.configuration_len) }
-
 pub returns : goal.returns
 returns c = record_placed c.args.page.now c.args.configuration.now (omega (arith, c.requires.configuration_len))
     c.byte_at.ensures

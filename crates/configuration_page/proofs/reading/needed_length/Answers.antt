@@ -10,9 +10,6 @@ use Rattle.configuration_page.proofs.reading.needed_length.Goals as goal
 pub loop-t-init : goal.loop-t-init
 loop-t-init c = (omega arith, omega arith, c.header_place-bytes.ensures ∙ rw c.types_on-n.ensures (sym (start_first _ _)))
 
-pub overflow_add-bytes : goal.overflow_add-bytes
-overflow_add-bytes c = let e = ap (λ (e : List ℕ). get_or e 3 0) c.header_on-e.ensures in omega (arith, c.type_inv.page (48 + 4 * c.loop-t.t + 3))
-
 pub loop-t-preserved : goal.loop-t-preserved
 loop-t-preserved c = let l = c.loop-t in let e = ap (λ (e : List ℕ). get_or e 3 0) c.header_on-e.ensures in (omega arith, omega (arith, c.type_inv.page (48 + 4 * l.t + 3)), start_next _ _ l.t l.invariant.2 e)
 

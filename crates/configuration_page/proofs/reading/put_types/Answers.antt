@@ -1,12 +1,12 @@
-use mathlib.Core.Path.{◌≡◌, refl, sym, ◌∙◌}
+use mathlib.Core.Path.{refl, sym, ◌∙◌}
 use Prim.Native.Nat.{◌+◌}
 use native.Mathlib.Omega.{arith}
-use Rattle.shelf.specs.Limits.{most_types, type_place}
+use Rattle.shelf.specs.Limits.{type_place}
 use Rattle.configuration_page.specs.Configuration.{type_told}
 use Rattle.configuration_page.proofs.AcceptedPage.{headers_in}
 use Rattle.configuration_page.proofs.TextStarts.{start_small}
 use Rattle.bits.proofs.RowStarts.{start_first, start_next}
-use Rattle.bits.proofs.RowsPut.{rows_next, rows_length}
+use Rattle.bits.proofs.RowsPut.{rows_next}
 use Rattle.configuration_page.proofs.reading.put_types.Goals as goal
 
 pub types_on-requires : goal.types_on-requires
@@ -14,11 +14,6 @@ types_on-requires c = omega (arith, headers_in c.args.page.now c.requires.page_v
 
 pub loop-t-init : goal.loop-t-init
 loop-t-init c = (omega arith, c.header_place-start.ensures ∙ rw c.types_on.ensures (sym (start_first _ _)), refl)
-
-pub put_type-start-requires : goal.put_type-start-requires
-put_type-start-requires c = let l = c.loop-t in
-    let e = rows_length type_place (type_told c.args.page.now) c.args.configuration.now l.t l.invariant.2 in
-    record { page_value = c.requires.page_value; t_lt_most_types = c.loop-t-test.true; start_value = l.invariant.1; has_types = rw e c.requires.has_types }
 
 pub overflow_add-start : goal.overflow_add-start
 overflow_add-start c = let l = c.loop-t in
@@ -32,10 +27,3 @@ loop-t-preserved c = let s = c.args in
       start_next _ _ l.t l.invariant.1 c.put_type-start.ensures.value,
       rows_next type_place (type_told s.page.now) s.configuration.now l.t l.invariant.2 refl refl c.put_type-start.ensures.configuration_after,
     )
-
-pub shape_of-configuration : goal.shape_of-configuration
-shape_of-configuration c = let s = c.args in
-    rows_length type_place (type_told s.page.now) s.configuration.now c.loop-t.t c.loop-t.invariant.2
-
-pub returns : goal.returns
-returns c = let e : c.loop-t.t ≡ most_types = omega arith in rw e at c.loop-t.invariant.2

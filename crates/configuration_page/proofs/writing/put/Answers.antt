@@ -16,9 +16,6 @@ put_headers-requires c = let s = c.args in
     let h = headers_first s.front.now c.requires.bytes_value in
     record { has_types = c.requires.has_front.1; n_le_most_types = omega (arith, n, few_types s.front.now c.requires.has_front.0); n_in_bounds = omega (arith, n, h, c.requires.bytes_in_bounds) }
 
-pub put_texts-requires : goal.put_texts-requires
-put_texts-requires c = record { has_front = c.requires.has_front; n_value = c.count-n.ensures; front_in_bounds = omega (arith, c.requires.bytes_value, c.requires.bytes_in_bounds) }
-
 pub returns : goal.returns
 returns c = let s = c.args in
     page_placed s.front.now s.out.now c.requires.bytes_value c.requires.bytes_in_bounds

@@ -1,4 +1,4 @@
-use mathlib.Core.Path.{◌≡◌, refl, sym, ap, ◌∙◌}
+use mathlib.Core.Path.{refl, sym, ap, ◌∙◌}
 use Prim.Native.Nat.{◌<◌}
 use native.Mathlib.Omega.{arith}
 use Rattle.shelf_formed.proofs.FormedShelf.{few_types}
@@ -39,11 +39,3 @@ loop-t-preserved c = let s = c.args in
       start_next _ _ l.t l.invariant.1 n,
       rows_next (text_start f) (text_of f) s.out.now l.t l.invariant.2 l.invariant.1 e c.copy.ensures,
     )
-
-pub shape_of-out : goal.shape_of-out
-shape_of-out c = let s = c.args in
-    let f = s.front.now in
-    rows_length (text_start f) (text_of f) s.out.now c.loop-t.t c.loop-t.invariant.2
-
-pub returns : goal.returns
-returns c = let e : c.loop-t.t ≡ c.args.n = omega arith in rw e at c.loop-t.invariant.2

@@ -17,30 +17,24 @@ first_run-run-requires c = omega (arith, length-formed c.args.shelf.now c.requir
 pub loop-j-init : goal.loop-j-init
 loop-j-init c = (omega arith, refl, c.first_run-run.ensures)
 
-pub run_to-here-requires : goal.run_to-here-requires
-run_to-here-requires c = let s = c.args in
+pub run_to-run-requires : goal.run_to-run-requires
+run_to-run-requires c = let s = c.args in
     let l = c.loop-j in
     let h : l.j < elements_of s.shelf.now = omega
     (arith, c.all_elements-n.ensures, c.loop-j-test.true) in record { has_element = (act_room s.shelf.now s.page.now l.j l.invariant.1 c.requires h).0; run_value = run_there s.shelf.now l.shelf (same_front s.shelf.now s.page.now l.j l.invariant.1) l.j h l.invariant.2 }
 
 pub places_in-requires : goal.places_in-requires
-places_in-requires c = let l = c.loop-j in run_small l.shelf l.j c.run_to-here.ensures
+places_in-requires c = let l = c.loop-j in run_small l.shelf l.j c.run_to-run.ensures
 
 pub act_on-requires : goal.act_on-requires
 act_on-requires c = let s = c.args in
     let l = c.loop-j in
-    let e = places_run l.shelf l.j c.run_to-here.ensures c.places_in.ensures in
+    let e = places_run l.shelf l.j c.run_to-run.ensures c.places_in.ensures in
     let h : l.j < elements_of s.shelf.now = omega
     (arith, c.all_elements-n.ensures, c.loop-j-test.true)
     in
     let r = act_room s.shelf.now s.page.now l.j l.invariant.1 c.requires h in
     record { has_element = r.0; has_slots = rw e r.1; at_value = e }
-
-pub overflow_add-j : goal.overflow_add-j
-overflow_add-j c = omega arith
-
-pub loop-j-smaller : goal.loop-j-smaller
-loop-j-smaller c = omega arith
 
 pub loop-j-preserved : goal.loop-j-preserved
 loop-j-preserved c = let s = c.args in
@@ -50,7 +44,7 @@ loop-j-preserved c = let s = c.args in
     in (
       omega arith,
       act_next s.shelf.now s.page.now l.j h l.invariant.1 c.act_on.ensures,
-      run_next s.shelf.now l.shelf (same_front s.shelf.now s.page.now l.j l.invariant.1) l.j h c.run_to-here.ensures,
+      run_next s.shelf.now l.shelf (same_front s.shelf.now s.page.now l.j l.invariant.1) l.j h c.run_to-run.ensures,
     )
 
 pub shape_of-shelf : goal.shape_of-shelf

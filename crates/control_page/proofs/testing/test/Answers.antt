@@ -1,25 +1,16 @@
-use Rattle.control_page.specs.Tests.{bytes_tested, control_tested}
+use Rattle.std.proofs.Common.{rules}
 use Rattle.page.specs.Header.{page_tested}
 use Rattle.page.specs.Slots.{slots_of}
-use Rattle.refusals.proofs.Stages.{page_count_refused, page_count_passed}
+use Rattle.control_page.specs.Tests.{bytes_tested, control_tested}
 use Rattle.control_page.proofs.Tests.{page_room}
 use Rattle.control_page.proofs.testing.test.Goals as goal
 
-pub returns-in_default : goal.returns-in_default
-unfolding control_tested
-returns-in_default c = let s = c.args in
-    let f = s.shelf.now in
-    let p = s.page.now in
-    page_count_refused (page_tested f p 0x02) (slots_of f) c.page_slots-tested.ensures (bytes_tested f p)
-    c.in_default.is c.answer.ensures c.of.ensures
-
-pub test_bytes-requires : goal.test_bytes-requires
-test_bytes-requires c = let s = c.args in let all = page_room s.shelf.now s.page.now c.page_slots-tested.ensures c.in-Slots.is in record { has_front = all.0; n_bound = all.1.0; n_in_bounds = all.1.1 }
+pub and_test_bytes-requires : goal.and_test_bytes-requires
+and_test_bytes-requires c = λ n u. let h = page_room c.args.shelf.now c.args.page.now c.page_slots-counted.ensures u in search rules
 
 pub returns : goal.returns
 unfolding control_tested
-returns c = let s = c.args in
-    let f = s.shelf.now in
-    let p = s.page.now in
-    page_count_passed (page_tested f p 0x02) (slots_of f) c.page_slots-tested.ensures (bytes_tested f p)
-    c.in-Slots.is c.test_bytes.ensures
+returns c =
+    let s = c.args.shelf.now in
+    let p = c.args.page.now in
+    c.and_test_bytes.ensures (page_tested s p 0x02) (bytes_tested s p (slots_of s)) (slots_of s) c.page_slots-counted.ensures (λ x h. search rules)

@@ -1,18 +1,12 @@
-use mathlib.Core.Path.{◌≡◌, sym}
+use mathlib.Core.Path.{sym}
 use native.Mathlib.Omega.{arith}
 use Rattle.bits.proofs.RowStarts.{start_first, start_next}
 use Rattle.names.proofs.NameBack.{name_bound}
-use Rattle.descriptor_page.proofs.DescriptorRows.{width_is, name_there, names_short}
+use Rattle.descriptor_page.proofs.DescriptorRows.{width_is, names_short}
 use Rattle.descriptor_page.proofs.writing.length.Goals as goal
 
 pub loop-i-init : goal.loop-i-init
 loop-i-init c = (omega arith, sym (start_first _ _))
-
-pub name_at-requires : goal.name_at-requires
-name_at-requires c = c.requires.0
-
-pub length_at-requires : goal.length_at-requires
-length_at-requires c = name_there c.args.names.now c.args.first c.loop-i.i c.name_at.ensures c.args.n c.requires c.loop-i-test.true
 
 pub overflow_add-bytes : goal.overflow_add-bytes
 overflow_add-bytes c = let s = c.args in
@@ -29,6 +23,3 @@ loop-i-preserved c = let s = c.args in
     let l = c.loop-i in
     let w = width_is s.names.now s.first l.i c.name_at.ensures c.length_at.ensures in
     (omega arith, start_next _ _ l.i l.invariant.1 w)
-
-pub returns : goal.returns
-returns c = let e : c.loop-i.i ≡ c.args.n = omega arith in rw e at c.loop-i.invariant.1

@@ -23,5 +23,5 @@ returns c = let f = c.args.names.now in
     let n = c.length_at-bytes.ensures in record {
       value = omega (arith, n, length_name f c.args.at);
       out_after = descriptor_put f c.args.at c.args.out.now c.args.place c.requires.at_in_bounds n
-          c.put_four.ensures c.copy.ensures;
+          c.four_of-head.ensures c.put_four.ensures c.copy.ensures;
     }

@@ -1,4 +1,4 @@
-use mathlib.Core.Path.{◌≡◌, refl, sym, ap}
+use mathlib.Core.Path.{refl, sym, ap}
 use native.Mathlib.Omega.{arith}
 use lib.ListN.{length}
 use Rattle.bits.proofs.RowStarts.{start_first, start_next}
@@ -10,9 +10,6 @@ use Rattle.descriptor_page.proofs.writing.put_descriptors.Goals as goal
 
 pub loop-i-init : goal.loop-i-init
 loop-i-init c = (omega arith, sym (start_first _ _), refl)
-
-pub name_at-requires : goal.name_at-requires
-name_at-requires c = c.requires.has_names.0
 
 pub put_descriptor-place-requires : goal.put_descriptor-place-requires
 put_descriptor-place-requires c = let f = c.args.names.now in
@@ -43,11 +40,3 @@ loop-i-preserved c = let s = c.args in
       start_next _ _ l.i l.invariant.1 (put_width f first l.i k c.put_descriptor-place.ensures.value),
       rows_next (start_of row) (λ j. descriptor (row j)) s.out.now l.i l.invariant.2 l.invariant.1 (ap descriptor (name_is f first l.i k)) c.put_descriptor-place.ensures.out_after,
     )
-
-pub shape_of-out : goal.shape_of-out
-shape_of-out c = let s = c.args in
-    let row = name_in s.names.now s.first in
-    rows_length (start_of row) (λ j. descriptor (row j)) s.out.now c.loop-i.i c.loop-i.invariant.2
-
-pub returns : goal.returns
-returns c = let e : c.loop-i.i ≡ c.args.n = omega arith in rw e at c.loop-i.invariant.2

@@ -1,5 +1,5 @@
 use mathlib.Core.Path.{◌≡◌}
-use Prim.Native.Nat.{◌≤◌, ◌-◌}
+use Prim.Native.Nat.{◌≤◌}
 use Rattle.bits.specs.Rows.{rows_put}
 use Rattle.names.specs.Name.{name_in}
 use Rattle.descriptor_page.specs.Page.{descriptor, start_of}
@@ -9,6 +9,3 @@ abbrev pub invariant-loop-i : goal.invariant-loop-i
 invariant-loop-i l = (l.i ≤ l.n)
     × (l.place ≡ start_of (name_in l.names l.first) l.i)
     × (l.out ≡ rows_put (start_of (name_in l.names l.first)) (λ j. descriptor (name_in l.names l.first j)) l.initial.out l.i)
-
-abbrev pub decreases-loop-i : goal.decreases-loop-i
-decreases-loop-i l = l.n - l.i

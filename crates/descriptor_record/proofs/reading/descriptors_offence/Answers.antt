@@ -1,4 +1,4 @@
-use mathlib.Core.Path.{◌≡◌, refl, ap, ◌∙◌}
+use mathlib.Core.Path.{◌≡◌, refl, sym, ap, ◌∙◌}
 use native.Mathlib.Omega.{arith}
 use Rattle.descriptor_record.specs.Read.{place_on}
 use Rattle.descriptor_record.proofs.DescriptorPlaces.{place_carried, place_in, in_page}
@@ -13,23 +13,23 @@ declared_at-text-requires c = let l = c.loop-i in
     let e = place_in c.args.page.now l.i c.args.n c.loop-i-test.true in
     record { k_in_bounds = omega (arith, e, l.invariant.1, c.requires.page_len); page_len_bound = c.requires.page_len_bound }
 
-pub descriptor_offence-j-requires : goal.descriptor_offence-j-requires
-descriptor_offence-j-requires c = let l = c.loop-i in
+pub descriptor_offence-requires : goal.descriptor_offence-requires
+descriptor_offence-requires c = let l = c.loop-i in
     record { n_value = c.declared_at-text.ensures; n_in_bounds = in_page c.args.page.now l.i c.args.n c.loop-i-test.true l.invariant.1 c.declared_at-text.ensures c.requires.page_len; page_len_bound = c.requires.page_len_bound }
 
-pub overflow_add-text : goal.overflow_add-text
-overflow_add-text c = let l = c.loop-i in
+pub overflow_add-k : goal.overflow_add-k
+overflow_add-k c = let l = c.loop-i in
     let e = in_page c.args.page.now l.i c.args.n c.loop-i-test.true l.invariant.1 c.declared_at-text.ensures c.requires.page_len in
     record { fits = omega (arith, e, c.requires.page_len_bound) }
 
 pub overflow_add-result : goal.overflow_add-result
 overflow_add-result c = let l = c.loop-i in
-    let e = in_page c.args.page.now l.i c.args.n c.loop-i-test.true l.invariant.1 c.declared_at-text.ensures c.requires.page_len in
-    record { fits = omega (arith, e, c.requires.page_len_bound, c.if-j-text.true) }
+    let e = stopped_in c.args.page.now c.args.n l.i c.loop-i-test.true l.invariant.1 c.declared_at-text.ensures l.invariant.2 c.in-Some.ensures in
+    record { fits = omega (arith, e.0, c.requires.page_len, c.requires.page_len_bound) }
 
-pub returns-then-j-text : goal.returns-then-j-text
-returns-then-j-text c = let l = c.loop-i in
-    stopped_in c.args.page.now c.args.n l.i c.loop-i-test.true l.invariant.1 c.declared_at-text.ensures l.invariant.2 c.descriptor_offence-j.ensures c.if-j-text.true
+pub returns-in-Some : goal.returns-in-Some
+returns-in-Some c = let l = c.loop-i in
+    (stopped_in c.args.page.now c.args.n l.i c.loop-i-test.true l.invariant.1 c.declared_at-text.ensures l.invariant.2 c.in-Some.ensures).1
 
 pub overflow_add-k-in-loop-i : goal.overflow_add-k-in-loop-i
 overflow_add-k-in-loop-i c = let l = c.loop-i in
@@ -42,7 +42,7 @@ loop-i-preserved c = let l = c.loop-i in
     let d = c.declared_at-text.ensures in (
       omega (arith, m),
       place_carried c.args.page.now l.i l.invariant.1 d,
-      none_in c.args.page.now c.args.n l.i m l.invariant.1 d l.invariant.2 c.descriptor_offence-j.ensures (omega (arith, c.if-j-text.false)),
+      none_in c.args.page.now c.args.n l.i m l.invariant.1 d l.invariant.2 (sym c.in_default.is ∙ c.descriptor_offence.ensures),
     )
 
 pub returns : goal.returns

@@ -11,10 +11,10 @@ returns-in_default c = let s = c.args in
     let k = s.configuration.now in
     let p = s.page.now in
     page_count_refused (configuration_tested k) (slots_of k) c.configuration_slots-configured.ensures (page_tested k p)
-    c.in_default.is c.answer.ensures c.of.ensures
+    c.in_default.is c.and.ensures c.of_page.ensures
 
 pub test_page-requires : goal.test_page-requires
-test_page-requires c = let e = configuration_counted c.args.configuration.now c.in-Slots.is
+test_page-requires c = let e = configuration_counted c.args.configuration.now c.in-Ok.is
     c.configuration_slots-configured.ensures in
     e.1.1
 
@@ -24,4 +24,4 @@ returns c = let s = c.args in
     let k = s.configuration.now in
     let p = s.page.now in
     page_count_passed (configuration_tested k) (slots_of k) c.configuration_slots-configured.ensures (page_tested k p)
-    c.in-Slots.is c.test_page.ensures
+    c.in-Ok.is c.test_page.ensures

@@ -8,13 +8,13 @@ pub returns-in_default : goal.returns-in_default
 unfolding page_tested
 returns-in_default c = let s = c.args in
     page_stopped (head_tested s.configuration.now s.page.now s.n) (bytes_tested s.page.now s.n) c.test_head-head.ensures
-    c.in_default.is c.of.ensures
+    c.in_default.is c.of_page.ensures
 
 pub test_bytes-requires : goal.test_bytes-requires
-test_bytes-requires c = let s = c.args in let all = bytes_there s.configuration.now s.page.now s.n c.type_inv.page (sym c.test_head-head.ensures ∙ c.in-Accepted.is) in record { page_len = all.0; page_len_bound = all.1 }
+test_bytes-requires c = let s = c.args in let all = bytes_there s.configuration.now s.page.now s.n c.type_inv.page (sym c.test_head-head.ensures ∙ c.in-Ok.is) in record { page_len = all.0; page_len_bound = all.1 }
 
 pub returns : goal.returns
 unfolding page_tested
 returns c = let s = c.args in
     page_gone_on (head_tested s.configuration.now s.page.now s.n) (bytes_tested s.page.now s.n) c.test_head-head.ensures
-    c.in-Accepted.is c.test_bytes.ensures
+    c.in-Ok.is c.test_bytes.ensures

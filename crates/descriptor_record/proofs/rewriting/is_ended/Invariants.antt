@@ -1,6 +1,6 @@
 use mathlib.Core.Path.{◌≡◌}
 use mathlib.Core.Bool.{true}
-use Prim.Native.Nat.{◌≤◌, ◌-◌}
+use Prim.Native.Nat.{◌≤◌}
 use Rattle.bits.specs.Choice.{all_below}
 use Rattle.shelf.specs.Limits.{most_text}
 use Rattle.descriptor_record.specs.Rewritten.{entry_place, end_byte}
@@ -8,6 +8,3 @@ use Rattle.descriptor_record.proofs.rewriting.is_ended.Given as goal
 
 abbrev pub invariant-loop-k : goal.invariant-loop-k
 invariant-loop-k l = (l.n ≤ l.k) × (l.k ≤ most_text) × (all_below (end_byte l.fields (entry_place l.i)) l.k ≡ true)
-
-abbrev pub decreases-loop-k : goal.decreases-loop-k
-decreases-loop-k l = most_text - l.k

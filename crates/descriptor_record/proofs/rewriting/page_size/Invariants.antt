@@ -1,12 +1,9 @@
 use mathlib.Core.Path.{◌≡◌}
 use mathlib.Core.Bool.{true}
-use Prim.Native.Nat.{◌≤◌, ◌-◌}
+use Prim.Native.Nat.{◌≤◌}
 use Rattle.bits.specs.Choice.{all_below}
 use Rattle.descriptor_record.specs.Rewritten.{entry_formed, bytes_again}
 use Rattle.descriptor_record.proofs.rewriting.page_size.Given as goal
 
 abbrev pub invariant-loop-i : goal.invariant-loop-i
 invariant-loop-i l = (l.i ≤ l.n) × (l.bytes ≡ bytes_again l.fields l.i) × (all_below (entry_formed l.fields) l.i ≡ true)
-
-abbrev pub decreases-loop-i : goal.decreases-loop-i
-decreases-loop-i l = l.n - l.i

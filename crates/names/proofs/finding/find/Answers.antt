@@ -10,16 +10,16 @@ returns-in_default c = let s = c.args in
 
 pub returns-then-text : goal.returns-then-text
 returns-then-text c = let s = c.args in
-    let z = formed_sizes s.shelf.now (sym c.open_shelf-opened.ensures ∙ c.in-Shelf.is) in
+    let z = formed_sizes s.shelf.now (sym c.open_shelf-opened.ensures ∙ c.in-Some.is) in
     too_long s.shelf.now s.text.now z.0 (omega arith)
 
 pub first_named-requires : goal.first_named-requires
 first_named-requires c = let s = c.args in
-    let z = formed_sizes s.shelf.now (sym c.open_shelf-opened.ensures ∙ c.in-Shelf.is) in
+    let z = formed_sizes s.shelf.now (sym c.open_shelf-opened.ensures ∙ c.in-Some.is) in
     record { shelf_value = z.0; types_value = z.1; elements_value = z.2; text_len_bound = omega arith }
 
 pub returns : goal.returns
 returns c = let s = c.args in
     let z =
-    formed_sizes s.shelf.now (sym c.open_shelf-opened.ensures ∙ c.in-Shelf.is) in
-    search_done s.shelf.now s.text.now z.0 c.first_named.ensures z.2 c.at.ensures
+    formed_sizes s.shelf.now (sym c.open_shelf-opened.ensures ∙ c.in-Some.is) in
+    search_done s.shelf.now s.text.now z.0 c.first_named.ensures z.2 c.found_at.ensures

@@ -10,15 +10,9 @@ search-init c = (omega arith, sym (before_none _), refl)
 pub elements_of-requires : goal.elements_of-requires
 elements_of-requires c = type_room c.args.shelf.now c.args.text.now c.requires.shelf_value c.requires.types_value c.search.t c.search-test.true
 
-pub overflow_cast-end : goal.overflow_cast-end
-overflow_cast-end c = omega arith
-
 pub overflow_add-end : goal.overflow_add-end
 overflow_add-end c = let o = c.search in
     omega (arith, few_searched c.args.shelf.now c.args.text.now c.requires.shelf_value c.requires.types_value o.t c.search-test.true o.invariant.1 c.elements_of.ensures)
-
-pub loop-j-init : goal.loop-j-init
-loop-j-init c = (omega arith, omega arith, c.search.invariant.2)
 
 pub overflow_add-j : goal.overflow_add-j
 overflow_add-j c = let o = c.search in
@@ -38,19 +32,10 @@ pub overflow_add-j-in-loop-j-2 : goal.overflow_add-j-in-loop-j-2
 overflow_add-j-in-loop-j-2 c = let o = c.search in
     omega (arith, few_searched c.args.shelf.now c.args.text.now c.requires.shelf_value c.requires.types_value o.t c.search-test.true o.invariant.1 c.elements_of.ensures)
 
-pub loop-j-smaller : goal.loop-j-smaller
-loop-j-smaller c = omega arith
-
 pub loop-j-preserved : goal.loop-j-preserved
 loop-j-preserved c = let o = c.search in
     let i = c.loop-j in
     (omega arith, omega (arith, c.loop-j-test.true), not_here c.args.shelf.now c.args.text.now c.requires.shelf_value c.requires.types_value o.t c.search-test.true o.invariant.1 c.elements_of.ensures i.j i.invariant.0 c.loop-j-test.true c.requires.elements_value c.name_place.ensures c.equals.ensures i.invariant.2 c.if-equals.false)
-
-pub overflow_add-t : goal.overflow_add-t
-overflow_add-t c = omega arith
-
-pub search-smaller : goal.search-smaller
-search-smaller c = omega arith
 
 pub search-preserved : goal.search-preserved
 search-preserved c = let o = c.search in

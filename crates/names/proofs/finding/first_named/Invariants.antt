@@ -17,6 +17,3 @@ decreases-loop-j l = l.end - l.j
 -- types before t have been searched
 abbrev pub invariant-search : goal.invariant-search
 invariant-search l = (l.t ≤ l.sizes.types) × (l.j ≡ before l.shelf l.t) × (all_below (fails (named l.shelf l.text)) l.j ≡ true)
-
-abbrev pub decreases-search : goal.decreases-search
-decreases-search l = l.sizes.types - l.t

@@ -1,10 +1,13 @@
-use mathlib.Core.Path.{refl}
+use Rattle.std.proofs.Common.{rules, ◌≡◌, true, ◌↔◌, IsTrue, EachIndex, get_or}
 use native.Mathlib.Omega.{arith}
-use Rattle.names.proofs.NameTests.{too_long, printable_name}
+use Rattle.bits.specs.Bits.{printable}
+use Rattle.names.proofs.NameTests.{too_long, all_printable}
 use Rattle.names.proofs.name.is_name.Goals as goal
 
 pub returns-then-text : goal.returns-then-text
-returns-then-text c = too_long c.args.text.now (omega arith)
+returns-then-text c = let x = c.args.text.now in
+    let h : IsTrue c.all.result ↔ EachIndex x (λ k. printable (get_or x k 0) ≡ true) = search rules in
+    all_printable x (omega (arith, c.if-text.true)) h
 
-pub returns : goal.returns
-returns c = printable_name c.args.text.now (omega arith) refl c.printable_run.ensures
+pub returns-else-text : goal.returns-else-text
+returns-else-text c = too_long c.args.text.now (omega (arith, c.if-text.false))

@@ -7,8 +7,8 @@ returns-in_default c = no_configuration c.args.configuration.now c.open_configur
 
 pub overflow_add-result : goal.overflow_add-result
 overflow_add-result c = omega
-    (arith, configuration_sum c.args.configuration.now c.open_configuration-opened.ensures c.in-Shelf.is)
+    (arith, configuration_sum c.args.configuration.now c.open_configuration-opened.ensures c.in-Some.is)
 
 pub returns : goal.returns
 returns c = configuration_slots c.args.configuration.now
-    c.open_configuration-opened.ensures c.in-Shelf.is
+    c.open_configuration-opened.ensures c.in-Some.is

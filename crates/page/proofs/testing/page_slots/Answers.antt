@@ -1,20 +1,12 @@
-use Rattle.refusals.proofs.Stages.{count_stopped, count_gone_on}
+use Rattle.std.proofs.Common.{rules}
 use Rattle.page.specs.Header.{shelf_tested, page_tested, headed}
 use Rattle.page.specs.Slots.{slots_of}
 use Rattle.page.proofs.SlotsCounted.{shelf_counted}
 use Rattle.page.proofs.testing.page_slots.Goals as goal
 
-pub returns-in_default : goal.returns-in_default
-unfolding page_tested
-returns-in_default c = let s = c.args in
-    count_stopped (shelf_tested s.shelf.now) (slots_of s.shelf.now) c.shelf_slots-opened.ensures
-    (headed s.shelf.now s.page.now s.code) c.in_default.is
-
-pub test-requires : goal.test-requires
-test-requires c = (shelf_counted c.args.shelf.now c.in-Slots.is c.shelf_slots-opened.ensures).1.1
+pub and_test-requires : goal.and_test-requires
+and_test-requires c = λ n u. let h = (shelf_counted c.args.shelf.now u c.shelf_slots.ensures).1.1 in search (rules, h)
 
 pub returns : goal.returns
 unfolding page_tested
-returns c = let s = c.args in
-    count_gone_on (shelf_tested s.shelf.now) (slots_of s.shelf.now) c.shelf_slots-opened.ensures
-    (headed s.shelf.now s.page.now s.code) c.in-Slots.is c.test.ensures c.of.ensures
+returns c = let s = c.args.shelf.now in c.and_test.ensures (shelf_tested s) (headed s c.args.page.now c.args.code (slots_of s)) (slots_of s) c.shelf_slots.ensures (λ x h. search rules)

@@ -7,7 +7,7 @@ returns-in_default c = no_shelf c.args.shelf.now c.open_shelf-opened.ensures c.i
 
 pub overflow_add-result : goal.overflow_add-result
 overflow_add-result c = omega
-    (arith, shelf_sum c.args.shelf.now c.open_shelf-opened.ensures c.in-Shelf.is)
+    (arith, shelf_sum c.args.shelf.now c.open_shelf-opened.ensures c.in-Some.is)
 
 pub returns : goal.returns
-returns c = shelf_slots c.args.shelf.now c.open_shelf-opened.ensures c.in-Shelf.is
+returns c = shelf_slots c.args.shelf.now c.open_shelf-opened.ensures c.in-Some.is

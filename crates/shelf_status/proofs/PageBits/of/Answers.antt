@@ -16,22 +16,16 @@ first_run-run-requires c = (shelf_there c.args.shelf.now c.requires).1
 pub loop-j-init : goal.loop-j-init
 loop-j-init c = (omega arith, refl, c.first_run-run.ensures)
 
-pub run_to-here-requires : goal.run_to-here-requires
-run_to-here-requires c = let l = c.loop-j in record { has_element = room c.args.shelf.now l.j c.requires (omega (arith, c.all_elements-n.ensures, c.loop-j-test.true)); run_value = l.invariant.2 }
+pub run_to-run-requires : goal.run_to-run-requires
+run_to-run-requires c = let l = c.loop-j in record { has_element = room c.args.shelf.now l.j c.requires (omega (arith, c.all_elements-n.ensures, c.loop-j-test.true)); run_value = l.invariant.2 }
 
 pub code_at-requires : goal.code_at-requires
 code_at-requires c = room c.args.shelf.now c.loop-j.j c.requires (omega (arith, c.all_elements-n.ensures, c.loop-j-test.true))
 
-pub overflow_add-j : goal.overflow_add-j
-overflow_add-j c = omega arith
-
-pub loop-j-smaller : goal.loop-j-smaller
-loop-j-smaller c = omega arith
-
 pub loop-j-preserved : goal.loop-j-preserved
 loop-j-preserved c = let s = c.args.shelf.now in
     let l = c.loop-j in
-    let r = c.run_to-here.ensures in
+    let r = c.run_to-run.ensures in
     (omega arith, seen_next s l.j l.invariant.1 (run_kind s l.j r) c.code_at.ensures c.with-seen.ensures, run_on s l.j r)
 
 pub returns : goal.returns

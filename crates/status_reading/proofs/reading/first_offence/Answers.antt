@@ -21,11 +21,11 @@ returns-then-byte_at-ne0 c = let s = c.args in let h : Fits w8 c.byte_at.result 
 pub loop-i-init : goal.loop-i-init
 loop-i-init c = (omega arith, c.first_run-run.ensures, refl)
 
-pub run_to-here-requires : goal.run_to-here-requires
-run_to-here-requires c = record { has_front = c.requires.has_front; i_bound = omega (arith, c.requires.n_bound, c.loop-i-test.true); run_value = c.loop-i.invariant.1 }
+pub run_to-run-requires : goal.run_to-run-requires
+run_to-run-requires c = record { has_front = c.requires.has_front; i_bound = omega (arith, c.requires.n_bound, c.loop-i-test.true); run_value = c.loop-i.invariant.1 }
 
 pub slot_in-at-requires : goal.slot_in-at-requires
-slot_in-at-requires c = let all = run_stands c.args.configuration.now c.requires.has_front.0 c.loop-i.i (omega (arith, c.requires.n_bound, c.loop-i-test.true)) c.run_to-here.ensures in record { i_lt_end = all.0; types_bound = all.1 }
+slot_in-at-requires c = let all = run_stands c.args.configuration.now c.requires.has_front.0 c.loop-i.i (omega (arith, c.requires.n_bound, c.loop-i-test.true)) c.run_to-run.ensures in record { i_lt_end = all.0; types_bound = all.1 }
 
 pub overflow_cast-result : goal.overflow_cast-result
 overflow_cast-result c = omega arith
@@ -40,21 +40,15 @@ returns-then-k-lt4 c = let s = c.args in
     (ap (only (2 ∷ 1 ∷ [])) (sym c.byte_at.ensures) ∙ sym (mask 0xf9 (2 ∷ 1 ∷ []) refl c.byte_at.result h) ∙ eq-eqb _ 0 c.if-byte_at-ne0.false)
     c.loop-i.i c.loop-i-test.true
     c.loop-i.invariant.2
-    (slot_offends s.configuration.now s.page.now c.loop-i.i (slot_walked s.configuration.now c.loop-i.i c.run_to-here.ensures c.slot_in-at.ensures) c.slot_offending-k.ensures)
+    (slot_offends s.configuration.now s.page.now c.loop-i.i (slot_walked s.configuration.now c.loop-i.i c.run_to-run.ensures c.slot_in-at.ensures) c.slot_offending-k.ensures)
     c.if-k-lt4.true c.slot_place.ensures
-
-pub overflow_add-i : goal.overflow_add-i
-overflow_add-i c = omega arith
-
-pub loop-i-smaller : goal.loop-i-smaller
-loop-i-smaller c = omega arith
 
 pub loop-i-preserved : goal.loop-i-preserved
 loop-i-preserved c = let q = c.args in
     let s = q.configuration.now in
     let p = q.page.now in
     let l = c.loop-i in
-    let r = c.run_to-here.ensures in
+    let r = c.run_to-run.ensures in
     let slot = slot_walked s l.i r c.slot_in-at.ensures in
     let none = rw (slot_offends s p l.i slot c.slot_offending-k.ensures) at c.if-k-lt4.false in
     (omega arith, walk_on s l.i r, below_next (fails (refused_in (slot_offending s p))) l.i l.invariant.2 (ap not (le-ltb (slot_offending s p l.i) 4 none)))

@@ -10,11 +10,11 @@ use Rattle.status_reading.proofs.reading.put_entries.Goals as goal
 pub loop-i-init : goal.loop-i-init
 loop-i-init c = (omega arith, c.first_run-run.ensures, refl, omega arith)
 
-pub run_to-here-requires : goal.run_to-here-requires
-run_to-here-requires c = record { has_front = c.requires.has_front; i_bound = omega (arith, c.requires.n_bound, c.loop-i-test.true); run_value = c.loop-i.invariant.1 }
+pub run_to-run-requires : goal.run_to-run-requires
+run_to-run-requires c = record { has_front = c.requires.has_front; i_bound = omega (arith, c.requires.n_bound, c.loop-i-test.true); run_value = c.loop-i.invariant.1 }
 
 pub slot_in-at-requires : goal.slot_in-at-requires
-slot_in-at-requires c = let all = run_stands c.args.configuration.now c.requires.has_front.0 c.loop-i.i (omega (arith, c.requires.n_bound, c.loop-i-test.true)) c.run_to-here.ensures in record { i_lt_end = all.0; types_bound = all.1 }
+slot_in-at-requires c = let all = run_stands c.args.configuration.now c.requires.has_front.0 c.loop-i.i (omega (arith, c.requires.n_bound, c.loop-i-test.true)) c.run_to-run.ensures in record { i_lt_end = all.0; types_bound = all.1 }
 
 pub slot_shown-requires : goal.slot_shown-requires
 slot_shown-requires c = omega (arith, c.requires.n_in_bounds, c.loop-i-test.true)
@@ -22,18 +22,12 @@ slot_shown-requires c = omega (arith, c.requires.n_in_bounds, c.loop-i-test.true
 pub put_entry-requires : goal.put_entry-requires
 put_entry-requires c = let l = c.loop-i in omega (arith, c.requires.n_in_bounds_2, c.loop-i-test.true, rows_length entry_place (slot_shown c.args.configuration.now c.args.page.now) c.args.fields.now l.i l.invariant.2)
 
-pub overflow_add-i : goal.overflow_add-i
-overflow_add-i c = omega (arith, c.loop-i.invariant.3, c.loop-i-test.true)
-
-pub loop-i-smaller : goal.loop-i-smaller
-loop-i-smaller c = omega arith
-
 pub loop-i-preserved : goal.loop-i-preserved
 loop-i-preserved c = let q = c.args in
     let s = q.configuration.now in
     let p = q.page.now in
     let l = c.loop-i in
-    let r = c.run_to-here.ensures in
+    let r = c.run_to-run.ensures in
     let slot = slot_walked s l.i r c.slot_in-at.ensures in
     let shown = slot_shows s p l.i slot c.slot_shown.ensures in (
       omega (arith, c.loop-i-test.true),

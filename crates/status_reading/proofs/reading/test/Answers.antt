@@ -1,28 +1,20 @@
-use native.Mathlib.Omega.{arith}
-use Rattle.refusals.proofs.Stages.{page_count_refused, page_count_passed}
-use Rattle.page.specs.Header.{configuration_tested}
+use Rattle.std.proofs.Common.{rules, ◌∙◌}
+use Rattle.page.specs.Header.{read_tested}
 use Rattle.page.specs.Slots.{slots_of}
-use Rattle.page.proofs.SlotsCounted.{configuration_counted}
-use Rattle.status_reading.specs.Read.{status_tested, status_read}
+use Rattle.page.proofs.SlotsCounted.{read_stages, read_there}
+use Rattle.status_reading.specs.Read.{bytes_tested, status_tested, status_read}
 use Rattle.status_reading.proofs.reading.test.Goals as goal
 
-pub returns-in_default : goal.returns-in_default
-unfolding status_read
-returns-in_default c = let s = c.args in
-    let k = s.configuration.now in
-    let p = s.page.now in
-    page_count_refused (configuration_tested k) (slots_of k) c.configuration_slots-configured.ensures (status_tested k p)
-    c.in_default.is c.answer.ensures c.of.ensures
-
-pub test_page-requires : goal.test_page-requires
-test_page-requires c = let e = configuration_counted c.args.configuration.now c.in-Slots.is
-    c.configuration_slots-configured.ensures in
-    record { has_front = e.1; n_bound = omega (arith, e.2) }
+pub and_test_bytes-requires : goal.and_test_bytes-requires
+and_test_bytes-requires c = λ n u.
+    let h = read_there c.args.configuration.now c.args.page.now 0x02 u c.read_slots-counted.ensures in
+    search rules
 
 pub returns : goal.returns
-unfolding status_read
-returns c = let s = c.args in
-    let k = s.configuration.now in
-    let p = s.page.now in
-    page_count_passed (configuration_tested k) (slots_of k) c.configuration_slots-configured.ensures (status_tested k p)
-    c.in-Slots.is c.test_page.ensures
+unfolding status_read status_tested
+returns c =
+    let k = c.args.configuration.now in
+    let p = c.args.page.now in
+    let rest = bytes_tested k p (slots_of k) in
+    c.and_test_bytes.ensures (read_tested k p 0x02) rest (slots_of k) c.read_slots-counted.ensures (λ x h. search rules)
+    ∙ read_stages k p 0x02 rest

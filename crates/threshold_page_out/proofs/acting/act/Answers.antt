@@ -17,19 +17,19 @@ first_run-run-requires c = omega (arith, length-formed c.args.shelf.now c.requir
 pub loop-j-init : goal.loop-j-init
 loop-j-init c = (omega arith, refl, c.first_run-run.ensures)
 
-pub run_to-here-requires : goal.run_to-here-requires
-run_to-here-requires c = let s = c.args in
+pub run_to-run-requires : goal.run_to-run-requires
+run_to-run-requires c = let s = c.args in
     let l = c.loop-j in
     let h : l.j < elements_of s.shelf.now = omega
     (arith, c.all_elements-n.ensures, c.loop-j-test.true) in record { has_element = (act_room s.shelf.now s.page.now l.j l.invariant.1 c.requires h).0; run_value = run_there s.shelf.now l.shelf (same_front s.shelf.now s.page.now l.j l.invariant.1) l.j h l.invariant.2 }
 
 pub places_in-requires : goal.places_in-requires
-places_in-requires c = let l = c.loop-j in run_small l.shelf l.j c.run_to-here.ensures
+places_in-requires c = let l = c.loop-j in run_small l.shelf l.j c.run_to-run.ensures
 
 pub taken_at-t-requires : goal.taken_at-t-requires
 taken_at-t-requires c = let s = c.args in
     let l = c.loop-j in
-    let e = places_run l.shelf l.j c.run_to-here.ensures c.places_in.ensures in
+    let e = places_run l.shelf l.j c.run_to-run.ensures c.places_in.ensures in
     let h : l.j < elements_of s.shelf.now = omega
     (arith, c.all_elements-n.ensures, c.loop-j-test.true)
     in
@@ -44,19 +44,13 @@ put_thresholds-requires c = let s = c.args in
     in
     (act_room s.shelf.now s.page.now l.j l.invariant.1 c.requires h).0
 
-pub overflow_add-j : goal.overflow_add-j
-overflow_add-j c = omega arith
-
-pub loop-j-smaller : goal.loop-j-smaller
-loop-j-smaller c = omega arith
-
 pub loop-j-preserved : goal.loop-j-preserved
 loop-j-preserved c = let s = c.args in
     let l = c.loop-j in
     let h : l.j < elements_of s.shelf.now = omega
     (arith, c.all_elements-n.ensures, c.loop-j-test.true)
     in
-    let r = c.run_to-here.ensures in (
+    let r = c.run_to-run.ensures in (
       omega arith,
       act_next s.shelf.now s.page.now l.j h l.invariant.1 (after_is l.shelf s.page.now l.j (places_run l.shelf l.j r c.places_in.ensures) c.taken_at-t.ensures) c.put_thresholds.ensures,
       run_next s.shelf.now l.shelf (same_front s.shelf.now s.page.now l.j l.invariant.1) l.j h r,

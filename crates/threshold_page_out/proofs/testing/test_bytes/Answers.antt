@@ -11,5 +11,5 @@ returns-in_default c = let s = c.args in
 
 pub returns : goal.returns
 returns c = let s = c.args in
-    limits_last s.shelf.now s.page.now s.n c.test_byte-byte.ensures c.in-Accepted.is
-    c.test_limits.ensures c.of.ensures
+    limits_last s.shelf.now s.page.now s.n c.test_byte-byte.ensures c.in-Ok.is
+    c.test_limits.ensures c.of_page.ensures

@@ -13,5 +13,5 @@ test_order-requires c = c.requires.has_page
 
 pub returns : goal.returns
 returns c = let s = c.args in
-    order_last s.shelf.now s.page.now s.n c.test_had-had.ensures c.in-Accepted.is
+    order_last s.shelf.now s.page.now s.n c.test_had-had.ensures c.in-Ok.is
     c.test_order.ensures

@@ -4,11 +4,11 @@ use mathlib.Core.Path.{sym, ◌∙◌}
 use Rattle.threshold_record.proofs.reading.read.Goals as goal
 
 pub hand_over-requires : goal.hand_over-requires
-hand_over-requires c = sym c.test-tested.ensures ∙ c.in-Accepted.is
+hand_over-requires c = sym c.test-tested.ensures ∙ c.in-Ok.is
 
 pub returns : goal.returns
 returns c = let s = c.args in
     let k = s.configuration.now in
     let p = s.page.now in
     read_handed (threshold_read k p) (threshold_record k p) s.fields.now c.test-tested.ensures
-    c.in-Accepted.is c.hand_over.ensures
+    c.in-Ok.is c.hand_over.ensures

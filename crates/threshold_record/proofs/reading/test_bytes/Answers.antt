@@ -24,5 +24,5 @@ returns c = let s = c.args in
     let p = s.page.now in
     let f = s.configuration.now in
     byte_passed p (offence f p on_page s.n) (slot_place s.n) (λ e. omega (arith, e)) (limits_tested f p on_page s.n)
-    c.test_byte-byte.ensures c.in-Accepted.is c.test_page.ensures
+    c.test_byte-byte.ensures c.in-Ok.is c.test_page.ensures
     ∙ ap (λ (k : ℕ). offence_tested k (slot_place s.n) (limits_tested f p on_page s.n)) (found f p s.n)

@@ -22,4 +22,4 @@ unfolding entries_tested
 returns c = let s = c.args in
     let r = s.fields.now in
     gone_on (count_tested r s.n) (rows_tested s.configuration.now r in_record s.n) c.test_count-counted.ensures
-    c.in-Accepted.is c.test_record.ensures
+    c.in-Ok.is c.test_record.ensures

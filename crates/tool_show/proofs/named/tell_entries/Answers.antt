@@ -8,7 +8,7 @@ pub run_to-run-requires : goal.run_to-run-requires
 run_to-run-requires g c = record {
   has_front = c.requires.has_front;
   i_bound = omega (arith, c.requires.n_value, c.loop-i-test.true);
-  run_value = c.loop-i.invariant.1;
+  run_value = c.loop-i.invariant;
 }
 
 pub tell_entry-requires : goal.tell_entry-requires
@@ -26,4 +26,4 @@ tell_entry-requires g c =
     }
 
 pub loop-i-preserved : goal.loop-i-preserved
-loop-i-preserved g c = (omega arith, walk_on c.args.shelf.now c.loop-i.i c.run_to-run.ensures)
+loop-i-preserved g c = walk_on c.args.shelf.now c.loop-i.i c.run_to-run.ensures

@@ -15,5 +15,5 @@ run_to-run-requires-in-loop-j c =
     record {
       has_front = c.requires.has_front;
       i_bound = omega (arith, c.requires.i_bound, c.loop-j-test.true);
-      run_value = walk_on c.args.shelf.now l.j l.invariant.1;
+      run_value = walk_on c.args.shelf.now l.j l.invariant;
     }

@@ -3,4 +3,4 @@ use Rattle.element.proofs.types.Kind.may_have_nominal.Goals as goal
 
 pub returns : goal.returns
 unfolding nominal_allowed
-returns c = rw (c.least_nominal.ensures, c.most_nominal.ensures)
+returns c = rw c.rules-rules.ensures

@@ -3,4 +3,4 @@ use Rattle.element.proofs.types.Kind.may_read.Goals as goal
 
 pub returns : goal.returns
 unfolding reading_allowed
-returns c = rw c.most_reading.ensures
+returns c = rw c.rules.ensures

@@ -1,22 +1,6 @@
-use Rattle.std.proofs.Common.{arith}
-use borrow.Author.Tests.{ne_eqb}
-use Rattle.element.specs.Types.{kind_of}
+use mathlib.Core.Path.{◌∙◌}
+use Rattle.element.proofs.KindNamed.{named_or}
 use Rattle.element.proofs.types.Kind.of.Goals as goal
 
-pub returns-in-3 : goal.returns-in-3
-unfolding kind_of
-returns-in-3 c = rw c.in-3.is
-
-pub returns-in-4 : goal.returns-in-4
-unfolding kind_of
-returns-in-4 c = rw c.in-4.is
-
-pub returns-in-18 : goal.returns-in-18
-unfolding kind_of
-returns-in-18 c = rw c.in-18.is
-
-pub returns-in_default : goal.returns-in_default
-unfolding kind_of
-returns-in_default c =
-    let n = c.args.code in
-    rw (ne_eqb n 3 (λ e. omega arith), ne_eqb n 4 (λ e. omega arith), ne_eqb n 18 (λ e. omega arith))
+pub returns : goal.returns
+returns c = rw c.from_code.ensures at c.unwrap_or.ensures ∙ named_or c.args.code

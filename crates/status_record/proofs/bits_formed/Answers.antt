@@ -1,4 +1,0 @@
-use Rattle.status_record.proofs.bits_formed.Goals as goal
-
-pub returns : goal.returns
-returns c = rw c.four_at-e.ensures

@@ -3,7 +3,6 @@
 #include <stdint.h>
 
 void *memcpy(void *restrict to, const void *restrict from, size_t length);
-void *memmove(void *to, const void *from, size_t length);
 void *memset(void *to, int byte, size_t length);
 int memcmp(const void *left, const void *right, size_t length);
 
@@ -19,17 +18,6 @@ void *memcpy(void *restrict to, const void *restrict from, size_t length)
     }
     while (length-- > 0)
         *put++ = *take++;
-    return to;
-}
-
-void *memmove(void *to, const void *from, size_t length)
-{
-    uint8_t *put = to;
-    const uint8_t *take = from;
-    if (put <= take || put >= take + length)
-        return memcpy(to, from, length);
-    while (length-- > 0)
-        put[length] = take[length];
     return to;
 }
 

@@ -11,16 +11,21 @@ use Rattle.bits.specs.Found.{found_below}
 use Rattle.bits.proofs.Logic.{pick_yes, pick_no, fails, below_all, first_at, first_none, first_bound, first_fails}
 
 module _ (f : ℕ → Bool) (n : ℕ) where
+  -- where the first is known
+  pub found_is : (k : ℕ) → k ≡ first_below f n → k < n → Some k ≡ found_below f n
+  unfolding found_below
+  found_is k q l = ap Some q ∙ sym (pick_yes _ _ _ (lt-ltb (first_below f n) n (omega (arith, q))))
+
+  pub found_not : n ≤ first_below f n → None ≡ found_below f n
+  unfolding found_below
+  found_not l = sym (pick_no _ _ _ (le-ltb (first_below f n) n l))
+
   -- the search stopped at k, or at the bound
   pub found_at : (k : ℕ) → k < n → all_below (fails f) k ≡ true → f k ≡ true → Some k ≡ found_below f n
-  unfolding found_below
-  found_at k l t e =
-      let q = first_at f n k l t e in
-      ap Some (sym q) ∙ sym (pick_yes _ _ _ (lt-ltb (first_below f n) n (omega (arith, q))))
+  found_at k l t e = found_is k (sym (first_at f n k l t e)) l
 
   pub found_none : all_below (fails f) n ≡ true → None ≡ found_below f n
-  unfolding found_below
-  found_none t = sym (pick_no _ _ _ (le-ltb (first_below f n) n (omega (arith, first_none f n t))))
+  found_none t = found_not (omega (arith, first_none f n t))
 
   -- and back
   pub found_first : {k : ℕ} → Some k ≡ found_below f n → (first_below f n ≡ k) × (k < n)

@@ -2,13 +2,13 @@
 use mathlib.Core.Path.{◌≡◌, refl, sym, ap, ◌∙◌}
 use mathlib.Core.List.{List, [], ◌∷◌, ◌++◌, append_assoc, append-nil}
 use mathlib.Core.Logic.{⊎_elim}
-use Prim.Native.Nat.{ℕ, zero, suc, ◌+◌, ◌*◌, ◌-◌, ◌<◌, ◌≤◌}
+use Prim.Native.Nat.{ℕ, zero, suc, ◌+◌, ◌*◌, ◌<◌, ◌≤◌}
 use native.Mathlib.Nat.{not-suc-le-zero, le_of_suc-le-suc, eq-or-lt_of_le, mul-suc, mul-zero, add-zero, zero-add}
+use native.Mathlib.Numerals.{add-one}
 use native.Mathlib.Omega.{arith}
-use lib.ListN.{length, get_or, take, drop, length-append, length-drop, get_or-append}
-use lib.Seq.{take_at, drop-append-add, drop-drop, take-add, get_or-append-add, get_or-drop, take-suc, take_all}
+use lib.ListN.{length, get_or, take, drop, set, length-append, length-drop, take-append-drop, get_or-append}
+use lib.Seq.{take_at, drop-append-add, drop-drop, drop-cons, take-add, get_or-append-add, get_or-drop, take-suc, set_at, append_snoc, length-take-le, take_all}
 use borrow.Author.Tests.{le-leb}
-use borrow.Rule.Slice.PartMut.{put_mid}
 use Rattle.bits.specs.Places.{four_at, put_four}
 use Rattle.bits.specs.Rows.{joined, one_at, bytes_at, put_bytes}
 use Rattle.bits.proofs.Logic.{pick_yes}
@@ -156,20 +156,27 @@ joined_four f h n i l =
     ∙ ap (λ (r : List ℕ). bytes_at r (4 * i) 4) (sym (append-nil (joined f n)))
     ∙ row_back (λ i. 4 * i) (λ i. 4) f (one_width f 4 h) [] refl n [] i l
 
--- as the library copies one slice onto another
-pub copied : (s : List ℕ) (k : ℕ) (f : List ℕ) (at n : ℕ) → at + n ≤ length f → k + n ≤ length s
-    → put_mid k (k + n - k) s (take (at + n - at) (drop at f)) ≡ put_bytes s k (bytes_at f at n)
-unfolding put_bytes
-copied s k f at n l h =
-    let a : at + n - at ≡ n = omega arith in
-    let b : k + n - k ≡ n = omega arith in
-    rw (a, b, length-bytes_at f at n, bytes_there f at n l, drop-drop n k s)
-    (sym (append_assoc (take k s) (take n (drop at f)) (drop (k + n) s)) ∙ sym (pick_yes _ _ s (le-leb (k + n) (length s) h)))
+-- one more byte is copied
+pub copy_start : (s : List ℕ) (k : ℕ) (f : List ℕ) (at : ℕ) → s ≡ take k s ++ bytes_at f at 0 ++ drop (k + 0) s
+unfolding bytes_at
+copy_start s k f at = rw (add-zero, append-nil) (sym (take-append-drop k s))
 
--- the same for the four bytes of an array
-pub copied_four : (s : List ℕ) (k : ℕ) (f : List ℕ) → length f ≡ 4 → k + 4 ≤ length s → put_mid k (k + 4 - k) s f ≡ put_four s k f
+pub copy_next : (s : List ℕ) (k : ℕ) (f : List ℕ) (at i : ℕ) → k + i < length s
+    → set (take k s ++ bytes_at f at i ++ drop (k + i) s) (k + i) (get_or f (at + i) 0) ≡ take k s ++ bytes_at f at (i + 1) ++ drop (k + (i + 1)) s
+unfolding bytes_at
+copy_next s k f at i h =
+    let p = take k s ++ joined (one_at f at) i in
+    let lp : length p ≡ k + i =
+    length-append (take k s) (joined (one_at f at) i)
+    ∙ rw (length-take-le k s (omega arith), length-joined (one_at f at) 1 (λ i. refl) i) (omega arith) in
+    let e : k + (i + 1) ≡ suc (k + i) = omega arith in
+    rw (drop-cons s (k + i) 0 h, e, add-one i)
+    (set_at p (get_or s (k + i) 0) (drop (suc (k + i)) s) (get_or f (at + i) 0) (k + i) lp
+    ∙ sym (append_snoc p (get_or f (at + i) 0) (drop (suc (k + i)) s))
+    ∙ ap (λ (r : List ℕ). r ++ drop (suc (k + i)) s) (append_assoc (take k s) (joined (one_at f at) i) (get_or f (at + i) 0 ∷ [])))
+
+-- all bytes are copied, or none
+pub copied : (s : List ℕ) (k : ℕ) (f : List ℕ) (at n : ℕ) → k + n ≤ length s
+    → take k s ++ bytes_at f at n ++ drop (k + n) s ≡ put_bytes s k (bytes_at f at n)
 unfolding put_bytes
-copied_four s k f l h =
-    let e : k + 4 - k ≡ 4 = omega arith in
-    rw (four_put_lem s k f l, e, drop-drop 4 k s, l)
-    (sym (append_assoc (take k s) f (drop (k + 4) s)) ∙ sym (pick_yes _ _ s (le-leb (k + 4) (length s) h)))
+copied s k f at n h = rw (length-bytes_at f at n) (sym (pick_yes _ _ _ (le-leb (k + n) (length s) h)))

@@ -107,8 +107,7 @@ pub fn put_four(s: &mut [u8], at: u32, f: [u8; 4])
     requires { at + 4 ≤ length s.old }
     ensures { s.new ≡ put_four s.old at f }
 {
-    let k = at as usize;
-    s[k..k + 4].copy_from_slice(&f);
+    copy(&f, 0, s, at, 4);
 }
 
 // Copies n bytes.
@@ -117,8 +116,10 @@ pub fn copy(from: &[u8], at: u32, to: &mut [u8], place: u32, n: u32)
     requires n_in_bounds_2 { place + n ≤ length to.old }
     ensures { to.new ≡ put_bytes to.old place (bytes_at from.now at n) }
 {
-    let (start, k, n) = (at as usize, place as usize, n as usize);
-    to[k..k + n].copy_from_slice(&from[start..start + n]);
+    let (start, k) = (at as usize, place as usize);
+    for i in 0..n as usize {
+        to[k + i] = from[start + i];
+    }
 }
 
 // How many of n bytes stand before the first that is not printable.

@@ -1,7 +1,7 @@
 -- The tests of a configuration page: of one byte, and all of them one after the other. Assumes nothing.
 use Rattle.bits.specs.Choice.{first_below}
 use Rattle.std.specs.Prelude.{Some, None, Ok, Err}
-use mathlib.Core.Path.{◌≡◌, sym, ap, ap₂, ◌∙◌}
+use mathlib.Core.Path.{◌≡◌, refl, sym, ap, ap₂, ◌∙◌}
 use mathlib.Core.Bool.{true, false}
 use mathlib.Core.Logic.{◌⊎◌, inl, inr}
 use mathlib.Core.List.{List}
@@ -86,12 +86,10 @@ bytes_tested_lem p e x q = q ∙ rw (x ∙ found p e, ← e)
 -- from what the search found
 module _ (p : List ℕ) {r : PageAnswer} where
   pub bytes_found : {k : ℕ} → Some k ≡ found_below (offends p) (length p) → r ≡ not_allowed_at k → r ≡ bytes_tested p
-  unfolding bytes_tested first_offence
-  bytes_found e q = offence_found (offends p) (length p) e q
+  bytes_found e q = bytes_tested_lem p refl refl (offence_found (offends p) (length p) e q)
 
   pub bytes_passed : None ≡ found_below (offends p) (length p) → r ≡ Ok tt → r ≡ bytes_tested p
-  unfolding bytes_tested first_offence
-  bytes_passed e q = no_offence (offends p) (length p) e q
+  bytes_passed e q = bytes_tested_lem p refl refl (no_offence (offends p) (length p) e q)
 
 -- all of them, one after the other
 module _ (p : List ℕ) where

@@ -13,8 +13,8 @@ use Rattle.bits.specs.Bits.{printable}
 use Rattle.bits.specs.Choice.{all_below, first_below}
 use Rattle.bits.specs.Texts.{printable_run}
 use Rattle.bits.specs.Found.{found_below}
-use Rattle.bits.proofs.Found.{found_at, found_none, found_first, none_first}
-use Rattle.bits.proofs.Logic.{by_case, pick_yes, pick_no, fails, below_at, below_all, first_passes, first_fails}
+use Rattle.bits.proofs.Found.{found_is, found_not, found_at, found_none, found_first, none_first}
+use Rattle.bits.proofs.Logic.{by_case, pick_yes, pick_no, fails, below_at, below_all, first_at, first_none, first_passes, first_fails}
 use Rattle.bits.proofs.Texts.{run_bound, run_printable, run_ends}
 use Rattle.shelf.specs.Limits.{most_text}
 use Rattle.descriptor_record.specs.Read.{declared, place_on, byte_offends, offends}
@@ -86,28 +86,28 @@ module _ (p : List ℕ) (k : ℕ) where
               let e : suc (suc (suc (suc i))) ≡ 4 + i = omega arith in
               ap (byte_offends p k) e ∙ offends_text i ∙ ap not (run_printable p (k + 4) n i (omega (arith, er)))
 
-          none_before : all_below (fails (byte_offends p k)) (4 + r) ≡ true
-          none_before = none_below (byte_offends p k) (4 + r) before_text
-
-          pub text_stopped : r < n → Some (4 + r) ≡ found_below (byte_offends p k) (4 + n)
-          text_stopped l =
-              let q : printable (get_or p (k + 4 + r) 0) ≡ false = rw er (run_ends p (k + 4) n (rw er at l)) in
-              found_at (byte_offends p k) (4 + n) (4 + r) (omega arith) none_before (offends_text r ∙ ap not q)
-
-          pub text_passed : n ≤ r → None ≡ found_below (byte_offends p k) (4 + n)
-          text_passed l =
-              let e : r ≡ n = let u = run_bound p (k + 4) n in omega (arith, er) in
-              found_none (byte_offends p k) (4 + n) (rw e at none_before)
-
           -- the search stops where the printable run ends, or at the end
           pub at_text : 4 + r ≡ first_below (byte_offends p k) (4 + n)
-          at_text =
-              by_case (ltb r n) (λ t. sym (found_first (byte_offends p k) (4 + n) (text_stopped (ltb-true r n t))).0)
-              (λ t.
-              let l = ltb-false r n t in
-              let u = run_bound p (k + 4) n in
-              let e = none_first (byte_offends p k) (4 + n) (text_passed l) in
-              omega (arith, er, u, l, e))
+          at_text = by_case (ltb r n) (λ t. stopped (ltb-true r n t)) (λ t. passed (ltb-false r n t))
+            where
+              none_before : all_below (fails (byte_offends p k)) (4 + r) ≡ true
+              none_before = none_below (byte_offends p k) (4 + r) before_text
+
+              stopped : r < n → 4 + r ≡ first_below (byte_offends p k) (4 + n)
+              stopped l =
+                  let q : printable (get_or p (k + 4 + r) 0) ≡ false = rw er (run_ends p (k + 4) n (rw er at l)) in
+                  sym (first_at (byte_offends p k) (4 + n) (4 + r) (omega arith) none_before (offends_text r ∙ ap not q))
+
+              passed : n ≤ r → 4 + r ≡ first_below (byte_offends p k) (4 + n)
+              passed l =
+                  let e : r ≡ n = let u = run_bound p (k + 4) n in omega (arith, er) in
+                  rw e (sym (first_none (byte_offends p k) (4 + n) (rw e at none_before)))
+
+          pub text_stopped : r < n → Some (4 + r) ≡ found_below (byte_offends p k) (4 + n)
+          text_stopped l = found_is (byte_offends p k) (4 + n) (4 + r) at_text (omega arith)
+
+          pub text_passed : n ≤ r → None ≡ found_below (byte_offends p k) (4 + n)
+          text_passed l = found_not (byte_offends p k) (4 + n) (omega (arith, at_text))
 
 -- of all descriptors, of which the first i are walked
 module _ (p : List ℕ) (n : ℕ) where

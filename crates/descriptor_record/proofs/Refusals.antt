@@ -1,5 +1,5 @@
 -- An Element Descriptor page read: one refusal after the other, and what an accepted one says. Assumes nothing.
-use Rattle.std.specs.Prelude.{Some, None, Ok, Err}
+use Rattle.std.specs.Prelude.{Ok, Err}
 use mathlib.Core.Path.{◌≡◌, refl, sym, ap, ◌∙◌}
 use mathlib.Core.Bool.{true, false}
 use mathlib.Core.List.{List, [], ◌++◌, append-nil}
@@ -18,9 +18,7 @@ use Rattle.bits.proofs.Logic.{by_case, pick_yes, pick_no, and_both, below_all, f
 use Rattle.bits.proofs.Rows.{EndToEnd, length-bytes_at, bytes_get, bytes_whole, joined_same}
 use Rattle.bits.proofs.RowsPut.{four_behind, rows_alike, rows_behind}
 use Rattle.refusals.specs.declared.Refusal.{Refusal}
-use Rattle.bits.specs.Found.{found_below}
-use Rattle.refusals.proofs.Searches.{offence_found, no_offence}
-use Rattle.refusals.specs.Outcomes.{next, placed, not_allowed_at, offence_tested}
+use Rattle.refusals.specs.Outcomes.{next, placed, offence_tested}
 use Rattle.refusals.proofs.Stages.{stopped, gone_on}
 use Rattle.refusals.proofs.AcceptedTests.{held_both, held_page, held_offence}
 use Rattle.record_head.specs.Head.{record_head}
@@ -81,16 +79,6 @@ pub bytes_tested_lem : (p : List ℕ) (n : ℕ) {k m : ℕ} {r : PageAnswer} →
     → r ≡ offence_tested k m (Ok tt) → r ≡ bytes_tested p n
 unfolding bytes_tested
 bytes_tested_lem p n e q x h = h ∙ rw (x, q, e)
-
--- and the search for the first offending byte
-module _ (p : List ℕ) (n : ℕ) {r : PageAnswer} where
-  pub bytes_found : {k : ℕ} → Some k ≡ found_below (offends p n) (place_on p n) → r ≡ not_allowed_at k → r ≡ bytes_tested p n
-  unfolding bytes_tested
-  bytes_found e q = offence_found (offends p n) (place_on p n) e q
-
-  pub bytes_passed : None ≡ found_below (offends p n) (place_on p n) → r ≡ Ok tt → r ≡ bytes_tested p n
-  unfolding bytes_tested
-  bytes_passed e q = no_offence (offends p n) (place_on p n) e q
 
 -- the name that a descriptor tells
 pub name_length_lem : (p : List ℕ) (i : ℕ) → length (name_on p i) ≡ declared p (place_on p i)

@@ -97,14 +97,6 @@ module _ (r : List ℕ) (n : ℕ) where
     unfolding entries_tested
     count_refused u e = e ∙ ap (λ (x : Answer). telling x 0) u ∙ sym (rw (← h, u))
 
-    pub entries_answered : {z : Option ℕ} {w : Counted} → a ≡ Ok tt → z ≡ pick (entries_formed r n) (Some (bytes_again r n)) None → w ≡ ok_or z NotAllowed
-        → w ≡ telling (entries_tested r n) (bytes_again r n)
-    unfolding entries_tested
-    entries_answered u e q =
-        q
-        ∙ ap (λ (o : Option ℕ). ok_or o NotAllowed) e
-        ∙ by_case (entries_formed r n) (λ t. rw (← h, u, t)) (λ t. rw (← h, u, t))
-
     -- a count of 0 bytes, which no page of names has
     module _ (u : a ≡ Ok tt) {k : ℕ} (e : k ≡ pick (entries_formed r n) (bytes_again r n) 0) where
       pub entries_refused : k ≡ 0 → Err NotAllowed ≡ telling (entries_tested r n) (bytes_again r n)
@@ -113,6 +105,16 @@ module _ (r : List ℕ) (n : ℕ) where
         where
           none : entries_formed r n ≡ false
           none = by_case (entries_formed r n) (λ t. absurd (omega (arith, e ∙ pick_yes _ _ _ t, z, start_behind 8 (width (name_in r (entry_place 0))) n))) (λ t. t)
+
+    -- one that is not formed counts none
+    pub entries_answered : {z : Option ℕ} {w : Counted} → a ≡ Ok tt → z ≡ pick (entries_formed r n) (Some (bytes_again r n)) None → w ≡ ok_or z NotAllowed
+        → w ≡ telling (entries_tested r n) (bytes_again r n)
+    unfolding entries_tested
+    entries_answered u e q =
+        q
+        ∙ ap (λ (o : Option ℕ). ok_or o NotAllowed) e
+        ∙ by_case (entries_formed r n) (λ t. rw (← h, u, t))
+        (λ t. ap (λ (o : Option ℕ). ok_or o NotAllowed) (pick_no _ _ _ t) ∙ entries_refused u refl (pick_no _ _ _ t))
 
 -- behind the configuration
 module _ (c r : List ℕ) {t : Counted} (h : t ≡ telling (configuration_tested c) (slots_of c)) where

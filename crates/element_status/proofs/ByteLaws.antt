@@ -15,8 +15,8 @@ use Rattle.bits.specs.Numbers.{big, bytes, Bytes}
 use Rattle.element.specs.declared.types.Kind.{Kind}
 use Rattle.element.specs.declared.settings.Settings.{Settings}
 use Rattle.element.specs.declared.verdict.Verdict.{Verdict}
-use Rattle.element.specs.Verdict.{judged}
-use Rattle.element.specs.StatusLayout.{most_of, shifts_of, cuts, puts, fit}
+use Rattle.element.specs.Verdict.{over, judged, current_verdict}
+use Rattle.element.specs.StatusLayout.{StatusLayout, most_of, shifts_of, cuts, puts, fit}
 use Rattle.element.specs.Rules.{Numbers}
 use Rattle.element.specs.Types.{rules_of, voltage_status, voltage_fields, current_status, current_fields}
 use Rattle.element.specs.Status.{head_of, first_byte, status_with, entry_of, status_bytes, most_shown, most_overall}
@@ -56,11 +56,21 @@ second_lit f l d {x} p q =
     let e : bit 6 x ≡ bit 6 f = ap (λ (n : ℕ). eqb n 1) b in
     ap (bit_or x) q ∙ lit_made x (omega (arith, p)) d ∙ (λ t. (i ∙ ap (λ (n : ℕ). n % 2) h) t * 128 + (num (e t || d) * 64 + m t))
 
+-- what an element shows, from the settings and the verdict that the calls say
+pub status_by : (l : StatusLayout) (f : Settings → Verdict → ℕ → List ℕ) (r : ℕ) {s t : Settings} {v w : Verdict} {e : List ℕ} → s ≡ t → v ≡ w
+    → e ≡ status_with l f s v r → e ≡ status_with l f t w r
+status_by l f r p q h = h ∙ (λ i. status_with l f (p i) (q i) r)
+
 -- a current shows what a voltage does without an UNDER bit
 without_under : (s : Settings) (hc hw : Bool) (r : ℕ)
     → let v : Verdict = judged hc hw false false in
     status_with voltage_status voltage_fields s v r ≡ status_with current_status current_fields s v r
 without_under s hc hw r = four refl (omega arith) refl refl
+
+pub current_by : (r n : ℕ) (limits : List ℕ) {s t : Settings} {v : Verdict} {e : List ℕ} → s ≡ t → v ≡ current_verdict r n limits
+    → e ≡ status_with voltage_status voltage_fields s v r → e ≡ status_with current_status current_fields t (current_verdict r n limits) r
+current_by r n limits {s} {t} p q h =
+    status_by voltage_status voltage_fields r p q h ∙ without_under t (over r n (get_or limits 0 0)) (over r n (get_or limits 1 0)) r
 
 -- an entry four fields by four, as cut out of the number that four bytes say
 pub entry_made : (k : Kind) (e a b c : List ℕ) → Bytes (four_at e 0)

@@ -1,6 +1,6 @@
 -- The stages of a call, one after the other: a refusal passes on at once, and an accepted stage leaves the answer to the next. Assumes nothing.
 use Rattle.std.specs.Prelude.{Ok, Err}
-use mathlib.Core.Path.{◌≡◌, refl, sym, ap, ◌∙◌}
+use mathlib.Core.Path.{◌≡◌, refl, sym, ap, ap₂, ◌∙◌}
 use Prim.Native.Nat.{ℕ}
 use native.Mathlib.Omega.{arith}
 use borrow.Author.Tests.{eq-eqb, ne_eqb}
@@ -70,7 +70,7 @@ module _ (x : Answer) (m : ℕ) {t : Counted} (h : t ≡ telling x m) where
   -- where the count is handed on
   module _ (rest : ℕ → Answer) where
     pub count_stopped : {r : Refusal} → t ≡ Err r → t ≡ telling (next x (rest m)) m
-    count_stopped u = u ∙ sym (rw (refusal_told u))
+    count_stopped u = u ∙ sym (ap (λ (a : Answer). telling a m) (sym (count_refused rest u refl) ∙ ap answer_of u))
 
     pub count_gone_on : {n : ℕ} {b : Answer} {o : Counted} → t ≡ Ok n → b ≡ rest n → o ≡ telling b n → o ≡ telling (next x (rest m)) m
-    count_gone_on u p q = let e = slots_told u in q ∙ rw (p, e.0, e.1)
+    count_gone_on u p q = q ∙ ap₂ telling (count_passed rest u p) (slots_told u).1

@@ -44,6 +44,7 @@ fn slot_row(shelf: &[u8], at: Slot) -> [u8; 4]
 }
 
 // The page of n slots into an output buffer that holds it.
+#[tactic(auto, using(crate::proofs::Loops::shelf_row))]
 fn put(shelf: &[u8], n: u16, out: &mut [u8])
     requires has_page { HasPage shelf.now out.old }
     requires n_value { n ≡ slots_of shelf.now }
@@ -58,6 +59,8 @@ fn put(shelf: &[u8], n: u16, out: &mut [u8])
     walk::put_rows(shelf, out, n, row);
 }
 
+// By count_unwritten a refusal that this function itself tells is judged by its number.
+#[tactic(auto, using(refusals::proofs::Left::count_unwritten))]
 pub fn write(shelf: &[u8], out: &mut [u8]) -> Result<u32, Refusal>
     ensures { WritesPage (shelf_tested shelf.now) (status_page shelf.now) out.old result out.new }
 {

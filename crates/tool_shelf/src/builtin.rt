@@ -4,6 +4,8 @@
 // held against each other.
 ghost use Rattle.std.specs.Prelude.{◌+◌, ◌≤◌, length};
 
+pub const ELEMENTS: u16 = 10;
+
 // 332 bytes, 16 for each element, and 32 for the name of each of five overall and ten individual elements.
 pub const LENGTH: usize = 972;
 

@@ -12,7 +12,7 @@ const FIRST_ELEMENT: usize = 332;
 
 const ELEMENT_SIZE: usize = 16;
 
-const FIRST_NAME: usize = 492;
+const FIRST_NAME: usize = FIRST_ELEMENT + ELEMENT_SIZE * builtin::ELEMENTS as usize;
 
 pub fn tell(
     rt: &impl Print,

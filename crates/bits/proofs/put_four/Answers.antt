@@ -1,7 +1,11 @@
-use Rattle.bits.proofs.Rows.{copied_four}
-use borrow.Author.Rules.{rules}
+use mathlib.Core.Path.{ap, ◌∙◌}
+use mathlib.Core.List.{List}
+use Prim.Native.Nat.{ℕ}
+use Rattle.bits.specs.Places.{put_four}
+use Rattle.bits.specs.Rows.{put_bytes}
+use Rattle.bits.proofs.Rows.{four_bytes}
 use Rattle.bits.proofs.put_four.Goals as goal
 
 pub returns : goal.returns
-returns c = let q = c.args in
-    rw (c.copy_from_slice.ensures.after) (copied_four q.s.now q.at q.f (search rules) c.requires)
+unfolding put_four
+returns c = let q = c.args in c.copy.ensures ∙ ap (λ (r : List ℕ). put_bytes q.s.now q.at r) (four_bytes q.f 0)

@@ -1,6 +1,8 @@
 use mathlib.Core.Path.{ap, ◌∙◌}
+use Prim.Native.Nat.{ℕ}
 use native.Mathlib.Omega.{arith}
 use lib.ListN.{length}
+use Rattle.bits.specs.Numbers.{bytes}
 use Rattle.bits.proofs.FourPut.{length_put}
 use Rattle.names.proofs.NameBack.{name_bound, length_name}
 use Rattle.descriptor_page.proofs.DescriptorRows.{descriptor_room, descriptor_put}
@@ -18,10 +20,11 @@ pub overflow_add-result : goal.overflow_add-result
 overflow_add-result c = let s = c.args in
     omega (arith, c.length_at-bytes.ensures, name_bound s.names.now s.at)
 
+-- the number told is that of the bytes, however it is reckoned
 pub returns : goal.returns
 returns c = let f = c.args.names.now in
     let n = c.length_at-bytes.ensures in record {
       value = omega (arith, n, length_name f c.args.at);
       out_after = descriptor_put f c.args.at c.args.out.now c.args.place c.requires.at_in_bounds n
-          c.four_of-head.ensures c.put_four.ensures c.copy.ensures;
+          (c.four_of-head.ensures ∙ ap (λ (m : ℕ). bytes 4 m) (omega arith)) c.put_four.ensures c.copy.ensures;
     }

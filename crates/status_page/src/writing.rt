@@ -59,7 +59,7 @@ fn put(shelf: &[u8], n: u16, out: &mut [u8])
     walk::put_rows(shelf, out, n, row);
 }
 
-// By count_unwritten a refusal that this function itself tells is judged by its number.
+// It tells no refusal of its own. count_unwritten is for the must-fail edit that has it tell one: so that is refused by its number.
 #[tactic(auto, using(refusals::proofs::Left::count_unwritten))]
 pub fn write(shelf: &[u8], out: &mut [u8]) -> Result<u32, Refusal>
     ensures { WritesPage (shelf_tested shelf.now) (status_page shelf.now) out.old result out.new }

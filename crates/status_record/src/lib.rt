@@ -27,15 +27,15 @@ pub fn entry_at(fields: &[u8], i: u16) -> [u8; element_status::ENTRY]
     requires { HasEntry fields.now i }
     ensures { result ≡ entry_at fields.now i }
 {
-    let k = entry_place(i);
-    let a = bits::four_at(fields, k);
-    let b = bits::four_at(fields, k + 4);
-    let c = bits::four_at(fields, k + 8);
-    let d = bits::four_at(fields, k + 12);
-    [
-        a[0], a[1], a[2], a[3], b[0], b[1], b[2], b[3], c[0], c[1], c[2], c[3], d[0], d[1], d[2],
-        d[3],
-    ]
+    let mut x = [0; element_status::ENTRY];
+    bits::copy(
+        fields,
+        entry_place(i),
+        &mut x,
+        0,
+        element_status::ENTRY as u32,
+    );
+    x
 }
 
 // The page bits and the number of entries.
